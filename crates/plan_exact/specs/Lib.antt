@@ -1,0 +1,4 @@
+pub mod Expr
+pub mod Formal
+pub mod Sign
+pub mod Vectors

@@ -1,0 +1,25 @@
+-- A combination of the ends of a segment, with weights that are not negative, is on the segment.
+use Rattle.std.proofs.Common.{ℤ, pos, ◌≤ℤ◌, [], ◌∷◌}
+use Rattle.plan_exact.specs.Expr.{con}
+use Rattle.plan_exact.specs.Vectors.{Vector, sum, scaled, env}
+use Rattle.plan_exact.specs.Formal as F
+use Rattle.plan_exact.specs.Formal.{A}
+use Rattle.plan_exact.proofs.RingVectors.{ring_vectors}
+use Rattle.plan_exact.proofs.Signs.{signs}
+use Rattle.plan_spec.specs.Segment.{On}
+use Rattle.plan_spec.specs.Parity.{segment}
+use Rattle.plan_spec.proofs.OnSegment.{Between, on}
+
+pub on_combination : (j k : ℤ) (a b : Vector) → pos 0 ≤ℤ j → pos 0 ≤ℤ k → On (segment a b) (sum (scaled j a) (scaled k b))
+on_combination j k a b hj hk =
+    let z = sum (scaled j a) (scaled k b) in
+    let between : Between a b z = record {
+      scale = pos 1;
+      first = j;
+      second = k;
+      scale_positive = search signs;
+      first_nonneg = hj;
+      second_nonneg = hk;
+      is_sum = ring_vectors (env [] (z ∷ [])) (F.scaled (con (pos 1)) A) A tt;
+    } in
+    on between

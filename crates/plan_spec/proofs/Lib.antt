@@ -1,0 +1,27 @@
+mod Rows
+pub mod OnSegment
+pub mod InTriangle
+pub mod Middle
+pub mod Edges
+pub mod Fan
+pub mod Holding
+pub mod Meeting
+pub mod Room
+pub mod Paths
+pub mod Touching
+pub mod Order
+pub mod Combination
+pub mod OnLine
+pub mod Ends
+pub mod TwoSegments
+pub mod Convex
+pub mod Throughout
+pub mod Xor
+pub mod Tests
+pub mod ParityStep
+pub mod Position
+pub mod Tally
+pub mod ClosedChain
+pub mod Decided
+pub mod CommonOrNot
+pub mod RouteCrosses

@@ -1,0 +1,57 @@
+-- What the tests of `over` and `counted` answer, from the order of the numbers.
+use Rattle.std.proofs.Common.{◌≡◌, ℤ, pos, ◌≤ℤ◌, ◌<ℤ◌, Bool, true, false, ◌&&◌, ◌||◌, refl, arith}
+use Rattle.std.proofs.lemmas.Int.{ints}
+use Rattle.std.specs.Prelude.{int_lt, int_le}
+use Rattle.plan_exact.specs.Vectors.{Vector}
+use Rattle.plan_spec.specs.Vector.{LeX, LtX, turn}
+use Rattle.plan_spec.specs.Segment.{over}
+use Rattle.plan_spec.specs.Parity.{segment, counted}
+
+pub le_true : {x y : ℤ} → x ≤ℤ y → int_le x y ≡ true
+le_true h = grind (arith, ints)
+
+pub le_false : {x y : ℤ} → y <ℤ x → int_le x y ≡ false
+le_false h = grind (arith, ints)
+
+pub lt_true : {x y : ℤ} → x <ℤ y → int_lt x y ≡ true
+lt_true h = grind (arith, ints)
+
+pub lt_false : {x y : ℤ} → y ≤ℤ x → int_lt x y ≡ false
+lt_false h = grind (arith, ints)
+
+-- ---- over, by where z is among the ends
+or_false : (x : Bool) → (x || false) ≡ x
+or_false true = refl
+or_false false = refl
+
+pub over_right_of_a : (a b z : Vector) → LeX a z → LtX z b → over (segment a b) z ≡ int_lt (turn a b z) (pos 0)
+over_right_of_a a b z h k = shown (int_lt (turn a b z) (pos 0)) _ (le_true h) (lt_true k) (le_false k)
+  where
+    shown : (t x : Bool) {l m n : Bool} → l ≡ true → m ≡ true → n ≡ false → ((l && (m && t)) || (n && x)) ≡ t
+    shown t x e f g = rw (e, f, g) (or_false t)
+
+pub over_past_both : (a b z : Vector) → LeX a z → LeX b z → over (segment a b) z ≡ false
+over_past_both a b z h k = shown _ _ _ _ (lt_false k) (lt_false h)
+  where
+    and_false : (l : Bool) → (l && false) ≡ false
+    and_false true = refl
+    and_false false = refl
+
+    shown : (l n t x : Bool) {m o : Bool} → m ≡ false → o ≡ false → ((l && (m && t)) || (n && (o && x))) ≡ false
+    shown l n t x f g = rw (f, g) (rw (and_false l, and_false n) refl)
+
+pub over_before_both : (a b z : Vector) → LtX z a → LtX z b → over (segment a b) z ≡ false
+over_before_both a b z h k = shown _ _ (le_false h) (le_false k)
+  where
+    shown : (t x : Bool) {l n : Bool} → l ≡ false → n ≡ false → ((l && t) || (n && x)) ≡ false
+    shown t x e f = rw (e, f) refl
+
+-- ---- counted, by where e is among the ends of the path
+pub counted_among : (p q e : Vector) → LtX p e → LeX e q → counted p q e ≡ int_lt (pos 0) (turn p q e)
+counted_among p q e h k = rw (lt_true h, le_true k) refl
+
+pub counted_before : (p q e : Vector) → LeX e p → counted p q e ≡ false
+counted_before p q e h = rw (lt_false h) refl
+
+pub counted_beyond : (p q e : Vector) → LtX p e → LtX q e → counted p q e ≡ false
+counted_beyond p q e h k = rw (lt_true h, le_false k) refl

@@ -1,0 +1,45 @@
+-- Lists of vertices, their edges, and what they hold.
+use Rattle.std.specs.Prelude.{pos, ◌<ℤ◌, ◌≤ℤ◌, ◌⊎◌, List, [], ◌∷◌, All, AllPairs, int_lt, if◌then◌else◌}
+use Rattle.plan_spec.specs.Vector.{Vector, Same, Before, turn}
+use Rattle.plan_spec.specs.Segment.{Segment}
+
+-- from each vertex to the next, and from the last to the one handed in
+abbrev pub edges_to : Vector → List Vector → List Segment
+edges_to first [] = []
+edges_to first (a ∷ []) = record { a = a; b = first } ∷ []
+edges_to first (a ∷ (b ∷ vs)) = record { a = a; b = b } ∷ edges_to first (b ∷ vs)
+
+-- the edges of a polygon, each from a vertex to the next one round
+abbrev pub edges : List Vector → List Segment
+edges [] = []
+edges (a ∷ vs) = edges_to a (a ∷ vs)
+
+-- z is on or left of the line from s.a to s.b
+abbrev pub OnOrLeft : Vector → Segment → Type 0
+OnOrLeft z s = pos 0 ≤ℤ turn s.a s.b z
+
+-- z is on or left of every edge: what a counterclockwise convex polygon holds, its boundary included
+abbrev pub Inside : List Vector → Vector → Type 0
+Inside vs z = All (OnOrLeft z) (edges vs)
+
+-- the vertex v is an end of the edge, or strictly left of it
+abbrev pub EndOrLeft : Segment → Vector → Type 0
+EndOrLeft s v = Same v s.a ⊎ (Same v s.b ⊎ (pos 0 <ℤ turn s.a s.b v))
+
+-- the first vertex comes before all others
+abbrev pub IsFromLeast : List Vector → Type 0
+IsFromLeast [] = Unit {0}
+IsFromLeast (v ∷ vs) = All (Before v) vs
+
+-- strictly convex and counterclockwise, from the least vertex on: the vertices differ, and of every edge all but its two ends are strictly left, so no three are in line
+pub record IsConvex (vs : List Vector) : Type 0 where
+  pub least : IsFromLeast vs
+  pub distinct : AllPairs (λ a b. ¬ (Same a b)) vs
+  pub left : All (λ s. All (EndOrLeft s) vs) (edges vs)
+
+-- a triangle's vertices counterclockwise, from the first one on
+abbrev pub counterclockwise : List Vector → List Vector
+counterclockwise [] = []
+counterclockwise (a ∷ []) = a ∷ []
+counterclockwise (a ∷ b ∷ []) = a ∷ b ∷ []
+counterclockwise (a ∷ b ∷ c ∷ vs) = if int_lt (turn a b c) (pos 0) then a ∷ c ∷ b ∷ vs else a ∷ b ∷ c ∷ vs
