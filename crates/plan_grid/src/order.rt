@@ -1,0 +1,41 @@
+ghost use Rattle.std.specs.Prelude.{◌*ℤ◌};
+ghost use Rattle.plan_grid.specs.Order.{IsSign, IsOrder};
+
+use plan_exact::Whole;
+use std::cmp::Ordering;
+
+/// How `a` stands to 0.
+pub fn sign(a: Whole) -> Ordering
+    ensures { IsSign result a }
+{
+    if a.is_positive() {
+        Ordering::Greater
+    } else if a.is_negative() {
+        Ordering::Less
+    } else {
+        Ordering::Equal
+    }
+}
+
+/// How `a` stands to `b`.
+pub fn order(a: Whole, b: Whole) -> Ordering
+    ensures { IsOrder result a b }
+{
+    if a.is_below(b) {
+        Ordering::Less
+    } else if b.is_below(a) {
+        Ordering::Greater
+    } else {
+        Ordering::Equal
+    }
+}
+
+/// How `a / p` stands to `b / q`, by the cross products.
+pub fn fraction_order(a: i64, p: i64, b: i64, q: i64) -> Ordering
+    ensures { IsOrder result (a *ℤ q) (b *ℤ p) }
+{
+    order(
+        Whole::from(a).times(Whole::from(q)),
+        Whole::from(b).times(Whole::from(p)),
+    )
+}

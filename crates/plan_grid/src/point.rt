@@ -1,0 +1,129 @@
+ghost use Rattle.std.specs.Prelude.{◌≡◌, ℕ, ◌<◌, ◌≤◌, ◌*◌, ◌^◌, ◌↔◌, unsigned_abs, IsTrue, IsNone, IfSome};
+ghost use Rattle.std.specs.declared.cmp.Ordering.TheVariants.{Equal};
+ghost use Rattle.plan_spec.specs.Vector.{Same};
+ghost use Rattle.plan_grid.specs.Spot.{spot_vector};
+ghost use Rattle.plan_grid.specs.Bounds.{IsInRange, IsBounded, IsBeyond};
+ghost use Rattle.plan_grid.specs.Fraction.{IsLcm, point_at};
+ghost use Rattle.plan_grid.specs.Order.{IsPointOrder};
+
+use crate::gcd::{divisor, quotient};
+use crate::order::fraction_order;
+use crate::ratio::{Ratio, common_denominator};
+use crate::spot::Spot;
+use std::cmp::Ordering;
+use std::marker::Model;
+
+const MAX_WEIGHT: i64 = 1 << 51;
+
+/// A rational point at the position `(x / w, y / w)`, in lowest terms: no number above 1 divides all three,
+/// `1 <= w <= 2^51`, and `x` and `y` are at most `2046 * w` in absolute value.
+#[derive(Clone, Copy, Debug, PartialEq, Eq)]
+pub struct Point {
+    x: i64,
+    y: i64,
+    w: i64,
+}
+
+impl Model for Point {
+    ghost use Rattle.plan_exact.specs.Vectors.{Vector};
+    ghost use Rattle.plan_grid.specs.Bounds.{IsInRange};
+
+    ghost Value = { Vector };
+
+    ghost view = { λ p. record { x = p.x; y = p.y; w = p.w } };
+
+    ghost invariant = { λ p. IsInRange (record { x = p.x; y = p.y; w = p.w }) };
+
+    ghost inverse = { λ v. record { x = v.x; y = v.y; w = v.w } };
+}
+
+impl Point {
+    /// The point at `(x / w, y / w)`, in lowest terms; None where it is beyond what a `Point` holds.
+    pub fn new(x: i64, y: i64, w: i64) -> Option<Point>
+        ensures none { IsNone result ↔ IsBeyond x y w }
+        ensures same { IfSome result (λ p. Same p (record { x = x; y = y; w = w })) }
+        ensures in_range { IfSome result IsInRange }
+    {
+        if w < 1 || w > MAX_WEIGHT || is_beyond(x, w) || is_beyond(y, w) {
+            return None;
+        }
+        Some(Point::lowest(x, y, w))
+    }
+
+    /// The point with the coordinates `x` and `y`.
+    pub fn at(x: Ratio, y: Ratio) -> Point
+        requires { (l : ℕ) → IsLcm (unsigned_abs x.den) (unsigned_abs y.den) l → l ≤ 2 ^ 51 }
+        ensures same { Same result (point_at x y) }
+        ensures in_range { IsInRange result }
+    {
+        let l = common_denominator(x, y);
+        Point::lowest(x.over(l).get() as i64, y.over(l).get() as i64, l as i64)
+    }
+
+    // The point at (`x / w`, `y / w`), in lowest terms.
+    fn lowest(x: i64, y: i64, w: i64) -> Point
+        requires { IsBounded (2 ^ 51) (record { x = x; y = y; w = w }) }
+        ensures same { Same result (record { x = x; y = y; w = w }) }
+        ensures in_range { IsInRange result }
+    {
+        let g = divisor(x, y, w);
+        Point {
+            x: quotient(x, g),
+            y: quotient(y, g),
+            w: quotient(w, g),
+        }
+    }
+
+    /// The point at a spot whose coordinates are at most 2046 in absolute value.
+    pub fn of(spot: Spot) -> Point
+        requires x_bounded { unsigned_abs spot.x ≤ 2046 }
+        requires y_bounded { unsigned_abs spot.y ≤ 2046 }
+        ensures { result ≡ spot_vector spot }
+    {
+        Point {
+            x: i64::from(spot.x),
+            y: i64::from(spot.y),
+            w: 1,
+        }
+    }
+
+    pub fn x(&self) -> i64
+        ensures value { result ≡ self.now.x }
+        ensures in_range { IsInRange self.now }
+    {
+        self.x
+    }
+
+    pub fn y(&self) -> i64
+        ensures value { result ≡ self.now.y }
+        ensures in_range { IsInRange self.now }
+    {
+        self.y
+    }
+
+    pub fn w(&self) -> i64
+        ensures value { result ≡ self.now.w }
+        ensures in_range { IsInRange self.now }
+    {
+        self.w
+    }
+}
+
+// Whether `|x| > 2046 * w`.
+fn is_beyond(x: i64, w: i64) -> bool
+    requires { unsigned_abs w ≤ 2 ^ 51 }
+    ensures { IsTrue result ↔ (2046 * unsigned_abs w < unsigned_abs x) }
+{
+    x.unsigned_abs() > 2046 * w.unsigned_abs()
+}
+
+/// How `a` stands to `b`, by x, then by y.
+pub fn compare(a: &Point, b: &Point) -> Ordering
+    ensures order { IsPointOrder result a.now b.now }
+    ensures equal { (result ≡ Equal) ↔ (a.now ≡ b.now) }
+{
+    match fraction_order(a.x, a.w, b.x, b.w) {
+        Ordering::Equal => fraction_order(a.y, a.w, b.y, b.w),
+        by_x => by_x,
+    }
+}
