@@ -1,0 +1,4 @@
+mod Pairs
+mod EndOrder
+mod Found
+mod HalfOpen

@@ -1,0 +1,5 @@
+use Rattle.plan_spec.proofs.RouteCrosses.{no_clear_polyline}
+use Rattle.plan_cross.proofs.laws.blocked.Goals as goal
+
+pub returns : goal.returns
+returns c = no_clear_polyline

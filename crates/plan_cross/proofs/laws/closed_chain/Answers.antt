@@ -1,0 +1,5 @@
+use Rattle.plan_spec.proofs.ClosedChain.{parity_constant}
+use Rattle.plan_cross.proofs.laws.closed_chain.Goals as goal
+
+pub returns : goal.returns
+returns c = parity_constant

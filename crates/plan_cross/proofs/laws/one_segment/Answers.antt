@@ -1,0 +1,5 @@
+use Rattle.plan_spec.proofs.ParityStep.{parity_step}
+use Rattle.plan_cross.proofs.laws.one_segment.Goals as goal
+
+pub returns : goal.returns
+returns c = parity_step

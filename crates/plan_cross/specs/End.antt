@@ -1,0 +1,6 @@
+-- An end of a segment as a point of the plane.
+use Rattle.plan_exact.specs.Vectors.{Vector}
+use Rattle.plan_cross.specs.declared.ends.End.{End}
+
+abbrev pub end_vector : End → Vector
+end_vector e = record { x = e.x; y = e.y; w = e.w }

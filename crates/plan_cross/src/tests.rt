@@ -1,0 +1,105 @@
+ghost use Rattle.std.specs.Prelude.{◌≤◌, unsigned_abs};
+
+use crate::{Chain, NoMemory, Segment, closed, over, parity};
+use plan_grid::{Point, Spot};
+use std::alloc::Global;
+
+fn spot(x: i8, y: i8) -> Spot
+    ensures x_bounded { unsigned_abs result.x ≤ 2046 }
+    ensures y_bounded { unsigned_abs result.y ≤ 2046 }
+{
+    Spot {
+        x: i32::from(x),
+        y: i32::from(y),
+    }
+}
+
+fn segment(ax: i8, ay: i8, bx: i8, by: i8) -> Segment {
+    Segment {
+        a: Point::of(spot(ax, ay)),
+        b: Point::of(spot(bx, by)),
+    }
+}
+
+// The sides of a box, each from its lesser end.
+fn sides(low: i8, right: i8, top: i8) -> [Segment; 4] {
+    [
+        segment(low, low, right, low),
+        segment(right, low, right, top),
+        segment(low, top, right, top),
+        segment(low, low, low, top),
+    ]
+}
+
+fn chain(alloc: Global, segments: &[Segment]) -> Result<Chain, NoMemory> {
+    let segments = Vec::from_slice(alloc, segments)?;
+    Ok(Chain { segments })
+}
+
+#[test]
+fn stands_over_from_its_left_end_to_before_its_right_end(rt: HostRuntime) {
+    let flat = segment(0, 2, 4, 2);
+    let turned = segment(4, 2, 0, 2);
+    for (x, y, want) in [
+        (0, 1, true),
+        (4, 1, false),
+        (2, 2, false),
+        (2, 3, false),
+        (3, -9, true),
+        (-1, 1, false),
+    ] {
+        assert_eq!(rt; over(&flat, spot(x, y)), want, "at {x} {y}");
+        assert_eq!(rt; over(&turned, spot(x, y)), want, "turned, at {x} {y}");
+    }
+    assert!(rt; !over(&segment(2, 0, 2, 9), spot(2, -1)));
+}
+
+#[test]
+fn is_odd_inside_a_loop(rt: HostRuntime) {
+    let outer = sides(0, 8, 19);
+    for (x, y, want) in [
+        (2, 2, true),
+        (15, 2, false),
+        (2, 19, false),
+        (0, 1, true),
+        (8, 1, false),
+    ] {
+        assert_eq!(rt; parity(&outer, spot(x, y)), want, "at {x} {y}");
+    }
+}
+
+#[test]
+fn is_even_inside_two_loops(rt: HostRuntime) -> Result<(), NoMemory> {
+    let mut both = Vec::from_slice(rt.alloc(), &sides(0, 8, 19))?;
+    both.extend_from_slice(&sides(2, 6, 9))?;
+    assert!(rt; !parity(&both, spot(4, 4)));
+    assert!(rt; parity(&both, spot(1, 4)));
+    assert!(rt; closed(rt.alloc(), &Chain { segments: both })?);
+    Ok(())
+}
+
+#[test]
+fn is_closed_where_each_end_stands_twice(rt: HostRuntime) -> Result<(), NoMemory> {
+    let alloc = rt.alloc();
+    let outer = sides(0, 8, 19);
+    assert!(rt; closed(alloc, &chain(alloc, &outer)?)?);
+    assert!(rt; !closed(alloc, &chain(alloc, &outer[..1])?)?);
+    assert!(rt; closed(alloc, &chain(alloc, &[])?)?);
+    assert!(rt; !parity(&[], spot(2, 2)));
+    Ok(())
+}
+
+#[test]
+fn counts_ends_by_position(rt: HostRuntime) -> Result<(), NoMemory> {
+    let alloc = rt.alloc();
+    let whole = Point::new(24, 57, 3).expect(&rt, "(8, 19)");
+    let half = Point::new(17, 1, 2).expect(&rt, "(17/2, 1/2)");
+    let mut segments = sides(0, 8, 19);
+    segments[1].b = whole;
+    assert!(rt; closed(alloc, &chain(alloc, &segments)?)?);
+    segments[1].b = half;
+    assert!(rt; !closed(alloc, &chain(alloc, &segments)?)?);
+    segments[2].b = half;
+    assert!(rt; closed(alloc, &chain(alloc, &segments)?)?);
+    Ok(())
+}
