@@ -1,0 +1,16 @@
+pub mod Chains
+pub mod Corners
+pub mod Crosses
+pub mod Edges
+pub mod Fan
+pub mod Least
+pub mod Merge
+pub mod MergeEnd
+pub mod MergeStep
+pub mod Reflection
+pub mod Stride
+pub mod Sums
+pub mod Triangle
+pub mod Walks
+mod Signs
+mod Meeting

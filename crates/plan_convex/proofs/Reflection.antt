@@ -1,0 +1,87 @@
+-- The sum is told from the triangles as they were given: which corner comes first does not matter, and the reflected robot holds what the robot holds on the other side.
+use Rattle.std.proofs.Common.{◌≡◌, inl, inr, ℤ, pos, ◌≤ℤ◌, ◌<ℤ◌, ◌↔◌, sym, subst, List, [], ◌∷◌, ◌++◌, map, arith}
+use Rattle.std.proofs.lemmas.Int.{ints}
+use Rattle.plan_exact.specs.Expr.{var, neg}
+use Rattle.plan_exact.specs.Vectors.{Vector}
+use Rattle.plan_exact.specs.Formal as F
+use Rattle.plan_exact.proofs.Ring.{ring}
+use Rattle.plan_spec.specs.Vector.{IsPoint, turn, minus}
+use Rattle.plan_spec.specs.Polygon.{Inside}
+use Rattle.plan_grid.specs.declared.spot.Spot.{Spot}
+use Rattle.plan_grid.specs.Spot.{spot_vector, IsWithin}
+use Rattle.plan_convex.specs.declared.walk.Walk.{Walk}
+use Rattle.plan_convex.specs.Convex.{vectors}
+use Rattle.plan_convex.specs.Plane.{opposite}
+use Rattle.plan_convex.specs.Walk.{IsTriangle, IsTurned, InSum, corners}
+use Rattle.plan_convex.proofs.Crosses.{coordinates, Pair, P}
+use Rattle.plan_convex.proofs.Least.{corners_bounded, triangle_from}
+use Rattle.plan_convex.proofs.Sums.{minusE}
+use Rattle.plan_convex.proofs.Triangle.{three_sides, inside_three, inside_turned, spotE}
+
+abbrev oppositeE : Pair → Pair
+oppositeE p = record { x = neg p.x; y = neg p.y }
+
+-- ---- from another corner on
+turned_holds : (xs ys : List Spot) (z : Vector) → IsTriangle xs → IsTurned xs ys → Inside (vectors ys) z → Inside (vectors xs) z
+turned_holds [] ys z h t i = absurd h
+turned_holds (a ∷ []) ys z h t i = absurd h
+turned_holds (a ∷ (b ∷ [])) ys z h t i = absurd h
+turned_holds (a ∷ (b ∷ (c ∷ (d ∷ rest)))) ys z h t i = absurd h
+turned_holds (a ∷ (b ∷ (c ∷ []))) ys z h (inl e) i = subst (λ l. Inside (vectors l) z) e i
+turned_holds (a ∷ (b ∷ (c ∷ []))) ys z h (inr (inl e)) i = inside_turned c a b z (inside_turned b c a z (subst (λ l. Inside (vectors l) z) e i))
+turned_holds (a ∷ (b ∷ (c ∷ []))) ys z h (inr (inr e)) i = inside_turned c a b z (subst (λ l. Inside (vectors l) z) e i)
+
+holds_turned : (xs ys : List Spot) (z : Vector) → IsTriangle xs → IsTurned xs ys → Inside (vectors xs) z → Inside (vectors ys) z
+holds_turned [] ys z h t i = absurd h
+holds_turned (a ∷ []) ys z h t i = absurd h
+holds_turned (a ∷ (b ∷ [])) ys z h t i = absurd h
+holds_turned (a ∷ (b ∷ (c ∷ (d ∷ rest)))) ys z h t i = absurd h
+holds_turned (a ∷ (b ∷ (c ∷ []))) ys z h (inl e) i = subst (λ l. Inside (vectors l) z) (sym e) i
+holds_turned (a ∷ (b ∷ (c ∷ []))) ys z h (inr (inl e)) i = subst (λ l. Inside (vectors l) z) (sym e) (inside_turned a b c z i)
+holds_turned (a ∷ (b ∷ (c ∷ []))) ys z h (inr (inr e)) i = subst (λ l. Inside (vectors l) z) (sym e) (inside_turned b c a z (inside_turned a b c z i))
+
+-- ---- on the other side of the origin
+opposite_within : (p : Spot) → IsWithin 1023 p → IsWithin 1023 (opposite p)
+opposite_within p h = record { x = omega (arith, ints); y = omega (arith, ints) }
+
+opposite_turn : (a b c : Spot) → turn (spot_vector a) (spot_vector b) (spot_vector c) ≡ turn (spot_vector (opposite a)) (spot_vector (opposite b)) (spot_vector (opposite c))
+opposite_turn a b c = ring (coordinates (a ∷ b ∷ c ∷ [])) (F.det (spotE (P 0)) (spotE (P 1)) (spotE (P 2))) (F.det (spotE (oppositeE (P 0))) (spotE (oppositeE (P 1))) (spotE (oppositeE (P 2)))) tt
+
+pub opposite_triangle : (xs : List Spot) → IsTriangle xs → IsTriangle (map opposite xs)
+opposite_triangle [] h = absurd h
+opposite_triangle (a ∷ []) h = absurd h
+opposite_triangle (a ∷ (b ∷ [])) h = absurd h
+opposite_triangle (a ∷ (b ∷ (c ∷ []))) h =
+    let k = corners_bounded a b c h in
+    triangle_from (opposite a) (opposite b) (opposite c) (subst (λ k. pos 0 <ℤ k) (opposite_turn a b c) h.0) (opposite_within a k.0) (opposite_within b k.1) (opposite_within c k.2)
+opposite_triangle (a ∷ (b ∷ (c ∷ (d ∷ rest)))) h = absurd h
+
+-- z less p is on the side of a b on which p less z is of the opposite one
+opposite_side : (a b : Spot) (z p : Vector) → turn (spot_vector a) (spot_vector b) (minus z p) ≡ turn (spot_vector (opposite a)) (spot_vector (opposite b)) (minus p z)
+opposite_side a b z p =
+    let zE : F.Vec = record { x = var 4; y = var 5; w = var 6 } in
+    let pE : F.Vec = record { x = var 7; y = var 8; w = var 9 } in
+    ring (coordinates (a ∷ b ∷ []) ++ z.x ∷ z.y ∷ z.w ∷ p.x ∷ p.y ∷ p.w ∷ []) (F.det (spotE (P 0)) (spotE (P 1)) (minusE zE pE)) (F.det (spotE (oppositeE (P 0))) (spotE (oppositeE (P 1))) (minusE pE zE)) tt
+
+opposite_holds : (xs : List Spot) (z p : Vector) → IsTriangle xs → Inside (vectors xs) (minus z p) ↔ Inside (vectors (map opposite xs)) (minus p z)
+opposite_holds [] z p h = absurd h
+opposite_holds (a ∷ []) z p h = absurd h
+opposite_holds (a ∷ (b ∷ [])) z p h = absurd h
+opposite_holds (a ∷ (b ∷ (c ∷ []))) z p h =
+    let move = λ (k l : ℤ) (e : k ≡ l) (i : pos 0 ≤ℤ k). subst (λ n. pos 0 ≤ℤ n) e i in
+    let ab = opposite_side a b z p in let bc = opposite_side b c z p in let ca = opposite_side c a z p in (
+      λ i. let t = three_sides a b c (minus z p) i in inside_three (opposite a) (opposite b) (opposite c) (minus p z) (record { first = move _ _ ab t.first; second = move _ _ bc t.second; third = move _ _ ca t.third }),
+      λ i. let t = three_sides (opposite a) (opposite b) (opposite c) (minus p z) i in inside_three a b c (minus z p) (record { first = move _ _ (sym ab) t.first; second = move _ _ (sym bc) t.second; third = move _ _ (sym ca) t.third }),
+    )
+opposite_holds (a ∷ (b ∷ (c ∷ (d ∷ rest)))) z p h = absurd h
+
+-- ---- both
+pub sum_of_given : (obstacle robot : List Spot) (a b : Walk) (vs : List Spot) → IsTriangle obstacle → IsTriangle robot → IsTurned obstacle (corners a) → IsTurned (map opposite robot) (corners b)
+    → ((p : Vector) → IsPoint p → Inside (vectors vs) p ↔ InSum (vectors (corners a)) (vectors (corners b)) p)
+    → (p : Vector) → IsPoint p → Inside (vectors vs) p ↔ ((z : Vector) × IsPoint z × Inside (vectors obstacle) z × Inside (vectors robot) (minus z p))
+sum_of_given obstacle robot a b vs ho hr ta tb merged p is_point =
+    let back = opposite_triangle robot hr in (
+      λ i. let s = (merged p is_point).0 i in
+          (s.0, s.1, turned_holds obstacle (corners a) s.0 ho ta s.2, (opposite_holds robot s.0 p hr).1 (turned_holds (map opposite robot) (corners b) (minus p s.0) back tb s.3)),
+      λ s. (merged p is_point).1 (s.0, s.1, holds_turned obstacle (corners a) s.0 ho ta s.2, holds_turned (map opposite robot) (corners b) (minus p s.0) back tb ((opposite_holds robot s.0 p hr).0 s.3)),
+    )

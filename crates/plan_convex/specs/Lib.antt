@@ -1,0 +1,4 @@
+pub mod Convex
+pub mod Meets
+pub mod Plane
+pub mod Walk
