@@ -1,0 +1,5 @@
+pub mod Streams
+pub mod Documents
+pub mod Lists
+pub mod Texts
+pub mod Fits

@@ -1,0 +1,3 @@
+/// A source or a sink has failed; its count of faults has risen.
+#[derive(Clone, Copy, Debug, PartialEq, Eq)]
+pub struct Failed;

@@ -1,0 +1,20 @@
+ghost use Rattle.std.specs.Prelude.{◌≤◌, OnOk, OnErr};
+ghost use Rattle.plan_wire.specs.Stream.{Rose, Appends, AppendsPart};
+
+use crate::failed::Failed;
+use crate::sink::Sink;
+
+/// Writes the whole line. What the sink does not take at once is offered again.
+pub fn put_line<K: Sink>(sink: &mut K, line: &[u8]) -> Result<(), Failed>
+    ensures count { K.faults sink.old ≤ K.faults sink.new }
+    ensures put { OnOk result (Appends (K.written sink.old) (K.written sink.new) line.now) }
+    ensures rose { OnErr result (Rose (K.faults sink.old) (K.faults sink.new)) }
+    ensures part { OnErr result (AppendsPart (K.written sink.old) (K.written sink.new) line.now) }
+{
+    let mut done = 0;
+    while done < line.len() {
+        let n = sink.write(&line[done..])?;
+        done += n;
+    }
+    Ok(())
+}
