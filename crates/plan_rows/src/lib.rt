@@ -1,0 +1,18 @@
+//! Whole runs of the planner: tables of words, documents, sources and sinks, with the code and the line that
+//! answer them. There are only tests here.
+#![tactic(auto)]
+
+#[cfg(test)]
+mod calls;
+#[cfg(test)]
+mod documents;
+#[cfg(test)]
+mod faults;
+#[cfg(test)]
+mod paths;
+#[cfg(test)]
+mod refusals;
+#[cfg(test)]
+mod sizes;
+#[cfg(test)]
+mod words;

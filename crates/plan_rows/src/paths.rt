@@ -1,0 +1,141 @@
+use crate::calls::{column, expect, told, words_of};
+use crate::documents::{CORNER, SPIKE, document};
+use std::alloc::Global;
+use std::process::Abort;
+use std::test::Fail;
+use std::thread::Threads;
+
+// Rows of a query, a path, and what `check` tells of them with this robot and these obstacles.
+fn answers<R: Threads + Sync + Abort>(
+    rt: &R,
+    alloc: Global,
+    robot: &str,
+    obstacles: &str,
+    table: &str,
+) -> Result<(), Fail> {
+    let words = words_of(alloc, "check")?;
+    for row in table.lines() {
+        let (query, rest) = column(row)?;
+        let (path, expected) = column(rest)?;
+        let certificate = format!(in alloc; "{{\"path\":{path}}}")?;
+        let text = document(alloc, robot, obstacles, query, certificate.as_str())?;
+        let told = told(rt, alloc, words.as_slice(), text.as_bytes())?;
+        expect(rt, &told, expected, row);
+    }
+    Ok(())
+}
+
+/// The corner robot and the spike: round it, through it, grazing its corner; each fault of a path, and which comes
+/// first; the way back; one point; equal points; along a side of the sum, beside it, on the side's line beyond its
+/// end, up to its corner.
+const BY_THE_SPIKE: &str = r#"[2,2,15,2] [[2,2,1],[2,15,1],[15,15,1],[15,2,1]] 0 "valid\n"
+[2,2,15,2] [[2,2,1],[15,2,1]] 6 "invalid: touches 0\n"
+[2,2,15,2] [[2,2,1],[6,8,1],[10,12,1],[15,15,1],[15,2,1]] 6 "invalid: touches 1\n"
+[2,2,15,2] [] 6 "invalid: empty path\n"
+[2,2,15,2] [[2,3,1],[15,2,1]] 6 "invalid: wrong start\n"
+[2,2,15,2] [[2,2,1],[15,3,1]] 6 "invalid: wrong goal\n"
+[2,2,15,2] [[3,2,1],[15,3,1]] 6 "invalid: wrong start\n"
+[2,2,15,2] [[2,2,1]] 6 "invalid: wrong goal\n"
+[15,2,2,2] [[15,2,1],[15,15,1],[2,15,1],[2,2,1]] 0 "valid\n"
+[2,2,2,2] [[2,2,1]] 0 "valid\n"
+[8,10,8,10] [[8,10,1]] 6 "invalid: touches 0\n"
+[9,3,9,3] [[9,3,1]] 6 "invalid: touches 0\n"
+[7,10,7,10] [[7,10,1]] 0 "valid\n"
+[2,2,2,15] [[2,2,1],[2,2,1],[2,15,1]] 0 "valid\n"
+[8,10,8,10] [[8,10,1],[8,10,1]] 6 "invalid: touches 0\n"
+[8,2,8,9] [[8,2,1],[8,9,1]] 6 "invalid: touches 0\n"
+[7,2,7,9] [[7,2,1],[7,9,1]] 0 "valid\n"
+[8,11,8,15] [[8,11,1],[8,15,1]] 0 "valid\n"
+[2,10,8,10] [[2,10,1],[8,10,1]] 6 "invalid: touches 0\n"
+[2,10,7,10] [[2,10,1],[7,10,1]] 0 "valid\n""#;
+
+/// The corner robot and the frame, which counts as touched.
+const IN_THE_FRAME: &str = r#"[0,2,2,2] [[0,2,1],[2,2,1]] 6 "invalid: touches 0\n"
+[1,2,2,2] [[1,2,1],[2,2,1]] 0 "valid\n"
+[2,2,18,2] [[2,2,1],[18,2,1]] 0 "valid\n"
+[2,2,19,2] [[2,2,1],[19,2,1]] 6 "invalid: touches 0\n"
+[2,2,2,18] [[2,2,1],[2,18,1]] 0 "valid\n"
+[2,2,2,19] [[2,2,1],[2,19,1]] 6 "invalid: touches 0\n"
+[2,1,2,1] [[2,1,1]] 0 "valid\n"
+[2,0,2,0] [[2,0,1]] 6 "invalid: touches 0\n"
+[30,30,30,30] [[30,30,1]] 6 "invalid: touches 0\n"
+[2,2,2,2] [[2,2,1],[2,18,1],[30,18,1],[2,2,1]] 6 "invalid: touches 1\n""#;
+
+#[test]
+fn the_spike_and_the_frame(rt: HostRuntime) -> Result<(), Fail> {
+    let alloc = rt.alloc();
+    answers(&rt, alloc, CORNER, SPIKE, BY_THE_SPIKE)?;
+    answers(&rt, alloc, CORNER, "[]", IN_THE_FRAME)
+}
+
+/// The corner robot and the spike, each in the other direction of turning, which changes nothing.
+const TURNED_CORNER: &str = "[[0,1],[1,0],[0,0]]";
+
+const TURNED_SPIKE: &str = r#"[{"id":1,"shape":[[9,10],[11,-5],[9,-5]]}]"#;
+
+#[test]
+fn the_direction_of_turning(rt: HostRuntime) -> Result<(), Fail> {
+    let alloc = rt.alloc();
+    answers(&rt, alloc, CORNER, TURNED_SPIKE, BY_THE_SPIKE)?;
+    answers(&rt, alloc, TURNED_CORNER, SPIKE, BY_THE_SPIKE)?;
+    answers(&rt, alloc, TURNED_CORNER, TURNED_SPIKE, BY_THE_SPIKE)
+}
+
+/// A robot that reaches 4 to the right, and a wall from (9, 5) and (11, 5) up to (9, 15): right of the wall the robot
+/// is clear, left of it by less than 4 it is not.
+const LONG: &str = "[[0,0],[4,0],[0,1]]";
+
+const WALL: &str = r#"[{"id":7,"shape":[[9,5],[11,5],[9,15]]}]"#;
+
+const BY_THE_WALL: &str =
+    r#"[12,2,6,2] [[12,2,1],[12,17,1],[6,17,1],[6,2,1]] 6 "invalid: touches 2\n"
+[12,2,12,17] [[12,2,1],[12,17,1]] 0 "valid\n"
+[6,2,6,17] [[6,2,1],[6,17,1]] 6 "invalid: touches 0\n"
+[4,2,4,17] [[4,2,1],[4,17,1]] 0 "valid\n""#;
+
+/// A robot that reaches 3 to the left, and nothing but the frame.
+const LEFT: &str = "[[-3,0],[0,0],[0,2]]";
+
+const LEFT_IN_THE_FRAME: &str = r#"[4,5,19,5] [[4,5,1],[19,5,1]] 0 "valid\n"
+[3,5,19,5] [[3,5,1],[19,5,1]] 6 "invalid: touches 0\n"
+[4,5,20,5] [[4,5,1],[20,5,1]] 6 "invalid: touches 0\n""#;
+
+/// A robot that is far from its placement, and the spike.
+const FAR: &str = "[[5,5],[6,5],[5,6]]";
+
+const FAR_BY_THE_SPIKE: &str =
+    r#"[-4,-4,10,-4] [[-4,-4,1],[-4,10,1],[10,10,1],[10,-4,1]] 0 "valid\n"
+[-4,-4,10,-4] [[-4,-4,1],[10,-4,1]] 6 "invalid: touches 0\n""#;
+
+#[test]
+fn robots_that_are_not_symmetric(rt: HostRuntime) -> Result<(), Fail> {
+    let alloc = rt.alloc();
+    answers(&rt, alloc, LONG, WALL, BY_THE_WALL)?;
+    answers(&rt, alloc, LEFT, "[]", LEFT_IN_THE_FRAME)?;
+    answers(&rt, alloc, FAR, SPIKE, FAR_BY_THE_SPIKE)
+}
+
+/// A small triangle, which the corner robot touches from (9, 8) and (11, 8) up to (9, 11) and (10, 11): through the sum
+/// with both ends outside, cutting its corner, past the corner, on its lower side and beside it.
+const ROCK: &str = r#"[{"id":65535,"shape":[[9,9],[11,9],[10,11]]}]"#;
+
+const BY_THE_ROCK: &str = r#"[2,10,17,10] [[2,10,1],[17,10,1]] 6 "invalid: touches 0\n"
+[7,9,10,12] [[7,9,1],[10,12,1]] 6 "invalid: touches 0\n"
+[7,10,9,12] [[7,10,1],[9,12,1]] 0 "valid\n"
+[7,8,13,8] [[7,8,1],[13,8,1]] 6 "invalid: touches 0\n"
+[7,7,13,7] [[7,7,1],[13,7,1]] 0 "valid\n""#;
+
+/// Two shelves across the room, the upper one second, which is the first that is met.
+const SHELVES: &str =
+    r#"[{"id":2,"shape":[[3,6],[18,6],[10,7]]},{"id":1,"shape":[[3,12],[18,12],[10,13]]}]"#;
+
+const BY_THE_SHELVES: &str =
+    r#"[1,2,10,2] [[1,2,1],[1,9,1],[10,9,1],[10,18,1],[10,2,1]] 6 "invalid: touches 2\n"
+[1,2,1,18] [[1,2,1],[1,18,1]] 0 "valid\n""#;
+
+#[test]
+fn other_obstacles(rt: HostRuntime) -> Result<(), Fail> {
+    let alloc = rt.alloc();
+    answers(&rt, alloc, CORNER, ROCK, BY_THE_ROCK)?;
+    answers(&rt, alloc, CORNER, SHELVES, BY_THE_SHELVES)
+}

@@ -1,0 +1,63 @@
+use crate::calls::{expect, told, told_from, words_of};
+use crate::documents::one_point;
+use plan_wire::{Source, SteadySource};
+use std::test::Fail;
+
+/// Words, parted by bars, and what is told over a document that is valid.
+const WORDS: &str = r#"check=0 "valid\n"
+plan|3=2 "refused: later\n"
+plan|1=2 "refused: later\n"
+plan|16=2 "refused: later\n"
+session|9=2 "refused: later\n"
+demo|1000|16=2 "refused: later\n"
+demo|1|1=2 "refused: later\n"
+=1 "usage: planner plan N | session N | check | demo K N\n"
+plan=1 "usage: planner plan N | session N | check | demo K N\n"
+plan|0=1 "usage: planner plan N | session N | check | demo K N\n"
+plan|17=1 "usage: planner plan N | session N | check | demo K N\n"
+plan|01=1 "usage: planner plan N | session N | check | demo K N\n"
+plan|+3=1 "usage: planner plan N | session N | check | demo K N\n"
+plan|-3=1 "usage: planner plan N | session N | check | demo K N\n"
+plan| 3=1 "usage: planner plan N | session N | check | demo K N\n"
+plan|=1 "usage: planner plan N | session N | check | demo K N\n"
+plan|3|3=1 "usage: planner plan N | session N | check | demo K N\n"
+plan|18446744073709551619=1 "usage: planner plan N | session N | check | demo K N\n"
+session|x=1 "usage: planner plan N | session N | check | demo K N\n"
+check|1=1 "usage: planner plan N | session N | check | demo K N\n"
+check|check=1 "usage: planner plan N | session N | check | demo K N\n"
+check =1 "usage: planner plan N | session N | check | demo K N\n"
+Check=1 "usage: planner plan N | session N | check | demo K N\n"
+demo|1|17=1 "usage: planner plan N | session N | check | demo K N\n"
+demo|1001|1=1 "usage: planner plan N | session N | check | demo K N\n"
+demo|1=1 "usage: planner plan N | session N | check | demo K N\n""#;
+
+#[test]
+fn the_words(rt: HostRuntime) -> Result<(), Fail> {
+    let alloc = rt.alloc();
+    let text = one_point(alloc)?;
+    for row in WORDS.lines() {
+        if let Some((words, expected)) = row.split_once('=') {
+            let words = words_of(alloc, words)?;
+            let told = told(&rt, alloc, words.as_slice(), text.as_bytes())?;
+            expect(&rt, &told, expected, row);
+        }
+    }
+    let told = told(&rt, alloc, &[], text.as_bytes())?;
+    let usage = r#"1 "usage: planner plan N | session N | check | demo K N\n""#;
+    expect(&rt, &told, usage, "no words");
+    Ok(())
+}
+
+// What is not `check` leaves its source alone, and `check` reads it to the end.
+#[test]
+fn what_is_read(rt: HostRuntime) -> Result<(), Fail> {
+    let alloc = rt.alloc();
+    for (words, left) in [("plan|3", 7), ("demo|1|1", 7), ("plan|0", 7), ("check", 0)] {
+        let mut source = SteadySource::new(b"{\"a\":1}".to_vec(alloc)?);
+        let all = words_of(alloc, words)?;
+        told_from(&rt, alloc, all.as_slice(), &mut source)?;
+        let mut room = [0u8; 8];
+        assert_eq!(rt; source.read(&mut room)?, left, "{words}");
+    }
+    Ok(())
+}

@@ -1,0 +1,7 @@
+pub mod Digits
+mod WordRows
+pub mod Outcomes
+mod Corners
+mod Box
+mod Segments
+mod Faults

@@ -1,0 +1,7 @@
+pub mod Fault
+pub mod Status
+pub mod Words
+pub mod Text
+pub mod Outcome
+pub mod Room
+pub mod Legs
