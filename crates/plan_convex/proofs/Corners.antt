@@ -8,7 +8,7 @@ use Rattle.plan_exact.proofs.Ring.{ring}
 use Rattle.plan_exact.proofs.Signs.{sign_of, mul_pos, mul_neg_neg, mul_pos_neg, mul_of_zero, zero_of_mul_left}
 use Rattle.plan_spec.specs.Vector.{IsPoint}
 use Rattle.plan_grid.specs.declared.spot.Spot.{Spot}
-use Rattle.plan_grid.specs.Spot.{spot_vector}
+use Rattle.plan_grid.specs.Spot.{spot_seen}
 use Rattle.plan_convex.specs.Plane.{plus, way, cross}
 use Rattle.plan_convex.proofs.Crosses.{two_crosses, cross_way_back, cross_way_on, cross_plus, no_direction}
 use Rattle.plan_convex.proofs.Triangle.{beside, beside_spot}
@@ -31,22 +31,22 @@ Borders S v d = (x : Vector) → IsPoint x → S x → pos 0 ≤ℤ beside v d x
 -- all spots of S but v itself are left of the line through v in the direction `inward`
 pub record IsExtreme (S : Vector → Type 0) (v : Spot) : Type 0 where
   pub inward : Spot
-  pub others : (u : Spot) → S (spot_vector u) → IsSame u v ⊎ (pos 0 <ℤ cross inward (way v u))
+  pub others : (u : Spot) → S (spot_seen u) → IsSame u v ⊎ (pos 0 <ℤ cross inward (way v u))
 
 pub record IsCorner (S : Vector → Type 0) (v : Spot) : Type 0 where
-  pub belongs : S (spot_vector v)
+  pub belongs : S (spot_seen v)
   pub extreme : IsExtreme S v
 
-pub borders_spot : (S : Vector → Type 0) (v d u : Spot) → Borders S v d → S (spot_vector u) → pos 0 ≤ℤ cross d (way v u)
+pub borders_spot : (S : Vector → Type 0) (v d u : Spot) → Borders S v d → S (spot_seen u) → pos 0 ≤ℤ cross d (way v u)
 borders_spot S v d u h i =
-    let k : pos 0 ≤ℤ beside v d (spot_vector u) = h (spot_vector u) (omega (arith, linear)) i in
+    let k : pos 0 ≤ℤ beside v d (spot_seen u) = h (spot_seen u) (omega (arith, linear)) i in
     omega (arith, linear, beside_spot v d u)
 
 -- where two border lines meet that are not aligned
 pub extreme_between : (S : Vector → Type 0) (v d e : Spot) → Borders S v d → Borders S v e → pos 0 <ℤ cross d e → IsExtreme S v
 extreme_between S v d e hd he turns = record { inward = plus d e; others = others }
   where
-    others : (u : Spot) → S (spot_vector u) → IsSame u v ⊎ (pos 0 <ℤ cross (plus d e) (way v u))
+    others : (u : Spot) → S (spot_seen u) → IsSame u v ⊎ (pos 0 <ℤ cross (plus d e) (way v u))
     others u i = by (sign_of (cross (plus d e) (way v u)))
       where
         left_of_d : pos 0 ≤ℤ cross d (way v u)

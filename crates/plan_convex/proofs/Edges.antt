@@ -6,20 +6,20 @@ use Rattle.plan_exact.specs.Vectors.{Vector}
 use Rattle.plan_spec.specs.Segment.{Segment}
 use Rattle.plan_spec.specs.Polygon.{Inside, OnOrLeft, edges, edges_to}
 use Rattle.plan_grid.specs.declared.spot.Spot.{Spot}
-use Rattle.plan_grid.specs.Spot.{spot_vector, spot_segment}
-use Rattle.plan_convex.specs.Convex.{vectors}
+use Rattle.plan_grid.specs.Spot.{spot_seen, edge_seen}
+use Rattle.plan_convex.specs.Convex.{spots_seen}
 use Rattle.plan_convex.proofs.Least.{corner}
 
 -- the edge of that number, as the code reads it
 abbrev pub edge_at : List Spot → ℕ → Segment
-edge_at vs k = spot_segment (corner vs k) (corner vs ((k + 1) % length vs))
+edge_at vs k = edge_seen (corner vs k) (corner vs ((k + 1) % length vs))
 
-length-edges_to : (f : Spot) (vs : List Spot) → length (edges_to (spot_vector f) (vectors vs)) ≡ length vs
+length-edges_to : (f : Spot) (vs : List Spot) → length (edges_to (spot_seen f) (spots_seen vs)) ≡ length vs
 length-edges_to f [] = refl
 length-edges_to f (a ∷ []) = refl
 length-edges_to f (a ∷ (b ∷ vs)) = ap suc (length-edges_to f (b ∷ vs))
 
-get_or-edges_to : (f : Spot) (vs : List Spot) (k : ℕ) (d : Segment) → k < length vs → get_or (edges_to (spot_vector f) (vectors vs)) k d ≡ spot_segment (corner vs k) (get_or vs (suc k) f)
+get_or-edges_to : (f : Spot) (vs : List Spot) (k : ℕ) (d : Segment) → k < length vs → get_or (edges_to (spot_seen f) (spots_seen vs)) k d ≡ edge_seen (corner vs k) (get_or vs (suc k) f)
 get_or-edges_to f [] k d h = absurd (omega arith)
 get_or-edges_to f (a ∷ []) zero d h = refl
 get_or-edges_to f (a ∷ []) (suc k) d h = absurd (omega arith)
@@ -41,19 +41,19 @@ get_or-next v rest k h = by (eq-or-lt_of_le h)
         let on : (k + 1) % length (v ∷ rest) ≡ suc k = ap (λ n. n % length (v ∷ rest)) (add-one k) ∙ mod-eq_of_lt below in
         get_or_default (v ∷ rest) (suc k) v (record { x = pos 0; y = pos 0 }) below ∙ sym (ap (corner (v ∷ rest)) on)
 
-pub get_or-edges : (vs : List Spot) (k : ℕ) (d : Segment) → k < length vs → get_or (edges (vectors vs)) k d ≡ edge_at vs k
+pub get_or-edges : (vs : List Spot) (k : ℕ) (d : Segment) → k < length vs → get_or (edges (spots_seen vs)) k d ≡ edge_at vs k
 get_or-edges [] k d h = absurd (omega arith)
-get_or-edges (v ∷ rest) k d h = get_or-edges_to v (v ∷ rest) k d h ∙ ap (λ p. spot_segment (corner (v ∷ rest) k) p) (get_or-next v rest k h)
+get_or-edges (v ∷ rest) k d h = get_or-edges_to v (v ∷ rest) k d h ∙ ap (λ p. edge_seen (corner (v ∷ rest) k) p) (get_or-next v rest k h)
 
-pub length-edges : (vs : List Spot) → length (edges (vectors vs)) ≡ length vs
+pub length-edges : (vs : List Spot) → length (edges (spots_seen vs)) ≡ length vs
 length-edges [] = refl
 length-edges (v ∷ rest) = length-edges_to v (v ∷ rest)
 
 -- what is on or left of each of them is held
-pub inside_by_number : (vs : List Spot) (z : Vector) → ((k : ℕ) → k < length vs → OnOrLeft z (edge_at vs k)) → Inside (vectors vs) z
+pub inside_by_number : (vs : List Spot) (z : Vector) → ((k : ℕ) → k < length vs → OnOrLeft z (edge_at vs k)) → Inside (spots_seen vs) z
 inside_by_number vs z h k d lt =
     let fits : k < length vs = omega (arith, length-edges vs) in
     subst (OnOrLeft z) (sym (get_or-edges vs k d fits)) (h k fits)
 
-pub left_of_edge : (vs : List Spot) (z : Vector) (k : ℕ) → k < length vs → Inside (vectors vs) z → OnOrLeft z (edge_at vs k)
+pub left_of_edge : (vs : List Spot) (z : Vector) (k : ℕ) → k < length vs → Inside (spots_seen vs) z → OnOrLeft z (edge_at vs k)
 left_of_edge vs z k h inside = let d = edge_at vs k in subst (OnOrLeft z) (get_or-edges vs k d h) (inside k d (omega (arith, length-edges vs)))

@@ -7,10 +7,10 @@ use Rattle.plan_exact.specs.Formal as F
 use Rattle.plan_exact.proofs.Ring.{ring}
 use Rattle.plan_spec.specs.Vector.{turn}
 use Rattle.plan_spec.specs.Polygon.{IsConvex, Inside}
-use Rattle.plan_spec.proofs.Fan as fan
+use Rattle.plan_plane.proofs.Polygon.Fan as fan
 use Rattle.plan_grid.specs.declared.spot.Spot.{Spot}
-use Rattle.plan_grid.specs.Spot.{spot_vector}
-use Rattle.plan_convex.specs.Convex.{vectors}
+use Rattle.plan_grid.specs.Spot.{spot_seen}
+use Rattle.plan_convex.specs.Convex.{spots_seen}
 use Rattle.plan_convex.specs.Plane.{way, cross}
 use Rattle.plan_convex.proofs.Crosses.{coordinates, P, wayE, crossE}
 use Rattle.plan_convex.proofs.Triangle.{InTriangle, three_sides, spotE}
@@ -26,24 +26,24 @@ pub record HoldingTriangle (H : Spot → Type 0) (p : Vector) : Type 0 where
   pub turns : pos 0 <ℤ cross (way a b) (way a c)
   pub holds : InTriangle a b c p
 
-turn_is : (a b c : Spot) → turn (spot_vector a) (spot_vector b) (spot_vector c) ≡ cross (way a b) (way a c)
+turn_is : (a b c : Spot) → turn (spot_seen a) (spot_seen b) (spot_seen c) ≡ cross (way a b) (way a c)
 turn_is a b c = ring (coordinates (a ∷ b ∷ c ∷ [])) (F.det (spotE (P 0)) (spotE (P 1)) (spotE (P 2))) (crossE (wayE (P 0) (P 1)) (wayE (P 0) (P 2))) tt
 
 -- the vector of a spot with the property
 abbrev Has : (Spot → Type 0) → Vector → Type 0
-Has H v = (s : Spot) × H s × (spot_vector s ≡ v)
+Has H v = (s : Spot) × H s × (spot_seen s ≡ v)
 
 of_spots : (H : Spot → Type 0) (p a b c : Vector) → Has H a → Has H b → Has H c → pos 0 <ℤ turn a b c → Inside (a ∷ b ∷ c ∷ []) p → HoldingTriangle H p
 of_spots H p a b c x y z turns inside =
-    let here : pos 0 <ℤ turn (spot_vector x.0) (spot_vector y.0) (spot_vector z.0) = rw (← x.2, ← y.2, ← z.2) at turns in
+    let here : pos 0 <ℤ turn (spot_seen x.0) (spot_seen y.0) (spot_seen z.0) = rw (← x.2, ← y.2, ← z.2) at turns in
     let first = subst (λ (v : Vector). Inside (v ∷ b ∷ c ∷ []) p) (sym x.2) inside in
-    let second = subst (λ (v : Vector). Inside (spot_vector x.0 ∷ v ∷ c ∷ []) p) (sym y.2) first in
-    let held = subst (λ (v : Vector). Inside (spot_vector x.0 ∷ spot_vector y.0 ∷ v ∷ []) p) (sym z.2) second in
+    let second = subst (λ (v : Vector). Inside (spot_seen x.0 ∷ v ∷ c ∷ []) p) (sym y.2) first in
+    let held = subst (λ (v : Vector). Inside (spot_seen x.0 ∷ spot_seen y.0 ∷ v ∷ []) p) (sym z.2) second in
     record { a = x.0; b = y.0; c = z.0; has_a = x.1; has_b = y.1; has_c = z.1; turns = rw (← turn_is x.0 y.0 z.0) here; holds = three_sides x.0 y.0 z.0 p held }
 
-pub held_by_triangle : (H : Spot → Type 0) (p : Vector) (vs : List Spot) → 3 ≤ length vs → IsConvex (vectors vs) → All H vs → Inside (vectors vs) p → HoldingTriangle H p
+pub held_by_triangle : (H : Spot → Type 0) (p : Vector) (vs : List Spot) → 3 ≤ length vs → IsConvex (spots_seen vs) → All H vs → Inside (spots_seen vs) p → HoldingTriangle H p
 held_by_triangle H p vs long convex hs inside =
-    let t = fan.fan (vectors vs) p convex (rw length-map long) inside in
-    let all : All (Has H) (vectors vs) = All-map (Has H) spot_vector vs (All-weaker H (λ s. Has H (spot_vector s)) (λ s h. (s, h, refl)) vs hs) in
-    let at = λ (v : Vector) (i : Contains (vectors vs) v). All-contains (Has H) (vectors vs) v all i in
+    let t = fan.fan (spots_seen vs) p convex (rw length-map long) inside in
+    let all : All (Has H) (spots_seen vs) = All-map (Has H) spot_seen vs (All-weaker H (λ s. Has H (spot_seen s)) (λ s h. (s, h, refl)) vs hs) in
+    let at = λ (v : Vector) (i : Contains (spots_seen vs) v). All-contains (Has H) (spots_seen vs) v all i in
     of_spots H p t.a t.b t.c (at t.a t.a_has) (at t.b t.b_has) (at t.c t.c_has) t.turns_left t.inside

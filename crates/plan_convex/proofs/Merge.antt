@@ -8,9 +8,9 @@ use Rattle.plan_exact.proofs.Ring.{ring}
 use Rattle.plan_spec.specs.Vector.{minus}
 use Rattle.plan_spec.specs.Polygon.{Inside}
 use Rattle.plan_grid.specs.declared.spot.Spot.{Spot}
-use Rattle.plan_grid.specs.Spot.{spot_vector, IsWithin}
+use Rattle.plan_grid.specs.Spot.{spot_seen, IsWithin}
 use Rattle.plan_convex.specs.declared.walk.Walk.{Walk}
-use Rattle.plan_convex.specs.Convex.{vectors}
+use Rattle.plan_convex.specs.Convex.{spots_seen}
 use Rattle.plan_convex.specs.Plane.{plus, way, cross}
 use Rattle.plan_convex.specs.Walk.{corners, edge, InSum, IsStart}
 use Rattle.plan_convex.proofs.Chains.{AllSides, IsSide}
@@ -30,7 +30,7 @@ stride a b a' b' = way (vertex a b) (vertex a' b')
 
 -- the sum of the two triangles
 abbrev pub Sum : Walk → Walk → Vector → Type 0
-Sum s t = InSum (vectors (corners s)) (vectors (corners t))
+Sum s t = InSum (spots_seen (corners s)) (spots_seen (corners t))
 
 -- how high a spot is, as far as `baseline` tells
 abbrev pub height : Spot → ℤ
@@ -39,7 +39,7 @@ height p = cross baseline p
 -- a side of S rises from u
 pub record Rising (S : Vector → Type 0) (u : Spot) : Type 0 where
   pub upper : Spot
-  pub belongs : S (spot_vector upper)
+  pub belongs : S (spot_seen upper)
   pub borders : Borders S u (way u upper)
   pub rises : pos 0 <ℤ cross baseline (way u upper)
 
@@ -84,8 +84,8 @@ sum_of s t a b ra rb =
     let rest : way a.at (vertex a b) ≡ b.at = spot_path (ring (coordinates (a.at ∷ b.at ∷ [])) (wayE (P 0) (plusE (P 0) (P 1))).x (P 1).x tt) (ring (coordinates (a.at ∷ b.at ∷ [])) (wayE (P 0) (plusE (P 0) (P 1))).y (P 1).y tt) in
     record {
       part = a.at;
-      first = ra.back (spot_vector a.at) (inside_corner a.at a.next a.previous ra.turns);
-      second = subst (λ y. Inside (vectors (corners t)) (spot_vector y)) (sym rest) (rb.back (spot_vector b.at) (inside_corner b.at b.next b.previous rb.turns));
+      first = ra.back (spot_seen a.at) (inside_corner a.at a.next a.previous ra.turns);
+      second = subst (λ y. Inside (spots_seen (corners t)) (spot_seen y)) (sym rest) (rb.back (spot_seen b.at) (inside_corner b.at b.next b.previous rb.turns));
     }
 
 -- a direction that both triangles are left of, as seen from the corners

@@ -6,7 +6,7 @@ use Rattle.plan_spec.specs.Vector.{IsPoint}
 use Rattle.plan_spec.specs.Polygon.{Inside, OnOrLeft}
 use Rattle.plan_grid.specs.declared.spot.Spot.{Spot}
 use Rattle.plan_convex.specs.declared.walk.Walk.{Walk}
-use Rattle.plan_convex.specs.Convex.{vectors, IsPolygon}
+use Rattle.plan_convex.specs.Convex.{spots_seen, IsPolygon}
 use Rattle.plan_convex.specs.Plane.{plus}
 use Rattle.plan_convex.specs.Walk.{corners, IsStart}
 use Rattle.plan_convex.proofs.Chains.{AllSides, IsSide, edges_from_sides, convex_from_sides}
@@ -20,7 +20,7 @@ use Rattle.plan_convex.proofs.Walks.{baseline, round_start, ahead_at_start, home
 -- the polygon of these vertices, and what it holds
 pub record IsSumPolygon (s t : Walk) (vs : List Spot) : Type 0 where
   pub polygon : IsPolygon vs
-  pub holds : (p : Vector) → IsPoint p → Inside (vectors vs) p ↔ Sum s t p
+  pub holds : (p : Vector) → IsPoint p → Inside (spots_seen vs) p ↔ Sum s t p
 
 closed : (s t a b : Walk) (u : Spot) (us : List Spot) → IsStart s → IsStart t → IsMerge s t a b (u ∷ us) → a.edges_left + b.edges_left ≡ 0 → IsSumPolygon s t (u ∷ us)
 closed s t a b u us hs ht m none =

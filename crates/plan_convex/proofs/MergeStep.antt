@@ -11,7 +11,7 @@ use Rattle.plan_exact.proofs.Laws.{linear}
 use Rattle.plan_exact.proofs.Ring.{ring}
 use Rattle.plan_exact.proofs.Signs.{sign_of}
 use Rattle.plan_grid.specs.declared.spot.Spot.{Spot}
-use Rattle.plan_grid.specs.Spot.{spot_vector, IsWithin}
+use Rattle.plan_grid.specs.Spot.{spot_seen, IsWithin}
 use Rattle.plan_convex.specs.declared.walk.Walk.{Walk}
 use Rattle.plan_convex.specs.Plane.{plus, way, cross}
 use Rattle.plan_convex.specs.Walk.{corners, edge, IsStep, first, second, both}
@@ -100,10 +100,10 @@ module _ (s t a b a' b' : Walk) (vs : List Spot) (m : IsMerge s t a b vs) (step 
   borders_before : Borders (Sum s t) (vertex a b) m.direction
   borders_before = borders_at s t a b m.direction m.first_round m.second_round (weakly m.direction a m.first_ahead) (weakly m.direction b m.second_ahead)
 
-  has_vertex : Sum s t (spot_vector (vertex a b))
+  has_vertex : Sum s t (spot_seen (vertex a b))
   has_vertex = sum_has (corners s) (corners t) (vertex a b) (sum_of s t a b m.first_round m.second_round)
 
-  has_next : Sum s t (spot_vector (vertex a' b'))
+  has_next : Sum s t (spot_seen (vertex a' b'))
   has_next = sum_has (corners s) (corners t) (vertex a' b') (sum_of s t a' b' first_round' second_round')
 
   -- the vertex is a new one

@@ -8,9 +8,9 @@ use Rattle.plan_exact.proofs.Ring.{ring}
 use Rattle.plan_spec.specs.Vector.{IsPoint, turn, minus}
 use Rattle.plan_spec.specs.Polygon.{Inside}
 use Rattle.plan_grid.specs.declared.spot.Spot.{Spot}
-use Rattle.plan_grid.specs.Spot.{spot_vector, IsWithin}
+use Rattle.plan_grid.specs.Spot.{spot_seen, IsWithin}
 use Rattle.plan_convex.specs.declared.walk.Walk.{Walk}
-use Rattle.plan_convex.specs.Convex.{vectors}
+use Rattle.plan_convex.specs.Convex.{spots_seen}
 use Rattle.plan_convex.specs.Plane.{opposite}
 use Rattle.plan_convex.specs.Walk.{IsTriangle, IsTurned, InSum, corners}
 use Rattle.plan_convex.proofs.Crosses.{coordinates, Pair, P}
@@ -22,29 +22,29 @@ abbrev oppositeE : Pair → Pair
 oppositeE p = record { x = neg p.x; y = neg p.y }
 
 -- ---- from another corner on
-turned_holds : (xs ys : List Spot) (z : Vector) → IsTriangle xs → IsTurned xs ys → Inside (vectors ys) z → Inside (vectors xs) z
+turned_holds : (xs ys : List Spot) (z : Vector) → IsTriangle xs → IsTurned xs ys → Inside (spots_seen ys) z → Inside (spots_seen xs) z
 turned_holds [] ys z h t i = absurd h
 turned_holds (a ∷ []) ys z h t i = absurd h
 turned_holds (a ∷ (b ∷ [])) ys z h t i = absurd h
 turned_holds (a ∷ (b ∷ (c ∷ (d ∷ rest)))) ys z h t i = absurd h
-turned_holds (a ∷ (b ∷ (c ∷ []))) ys z h (inl e) i = subst (λ l. Inside (vectors l) z) e i
-turned_holds (a ∷ (b ∷ (c ∷ []))) ys z h (inr (inl e)) i = inside_turned c a b z (inside_turned b c a z (subst (λ l. Inside (vectors l) z) e i))
-turned_holds (a ∷ (b ∷ (c ∷ []))) ys z h (inr (inr e)) i = inside_turned c a b z (subst (λ l. Inside (vectors l) z) e i)
+turned_holds (a ∷ (b ∷ (c ∷ []))) ys z h (inl e) i = subst (λ l. Inside (spots_seen l) z) e i
+turned_holds (a ∷ (b ∷ (c ∷ []))) ys z h (inr (inl e)) i = inside_turned c a b z (inside_turned b c a z (subst (λ l. Inside (spots_seen l) z) e i))
+turned_holds (a ∷ (b ∷ (c ∷ []))) ys z h (inr (inr e)) i = inside_turned c a b z (subst (λ l. Inside (spots_seen l) z) e i)
 
-holds_turned : (xs ys : List Spot) (z : Vector) → IsTriangle xs → IsTurned xs ys → Inside (vectors xs) z → Inside (vectors ys) z
+holds_turned : (xs ys : List Spot) (z : Vector) → IsTriangle xs → IsTurned xs ys → Inside (spots_seen xs) z → Inside (spots_seen ys) z
 holds_turned [] ys z h t i = absurd h
 holds_turned (a ∷ []) ys z h t i = absurd h
 holds_turned (a ∷ (b ∷ [])) ys z h t i = absurd h
 holds_turned (a ∷ (b ∷ (c ∷ (d ∷ rest)))) ys z h t i = absurd h
-holds_turned (a ∷ (b ∷ (c ∷ []))) ys z h (inl e) i = subst (λ l. Inside (vectors l) z) (sym e) i
-holds_turned (a ∷ (b ∷ (c ∷ []))) ys z h (inr (inl e)) i = subst (λ l. Inside (vectors l) z) (sym e) (inside_turned a b c z i)
-holds_turned (a ∷ (b ∷ (c ∷ []))) ys z h (inr (inr e)) i = subst (λ l. Inside (vectors l) z) (sym e) (inside_turned b c a z (inside_turned a b c z i))
+holds_turned (a ∷ (b ∷ (c ∷ []))) ys z h (inl e) i = subst (λ l. Inside (spots_seen l) z) (sym e) i
+holds_turned (a ∷ (b ∷ (c ∷ []))) ys z h (inr (inl e)) i = subst (λ l. Inside (spots_seen l) z) (sym e) (inside_turned a b c z i)
+holds_turned (a ∷ (b ∷ (c ∷ []))) ys z h (inr (inr e)) i = subst (λ l. Inside (spots_seen l) z) (sym e) (inside_turned b c a z (inside_turned a b c z i))
 
 -- ---- on the other side of the origin
 opposite_within : (p : Spot) → IsWithin 1023 p → IsWithin 1023 (opposite p)
 opposite_within p h = record { x = omega (arith, ints); y = omega (arith, ints) }
 
-opposite_turn : (a b c : Spot) → turn (spot_vector a) (spot_vector b) (spot_vector c) ≡ turn (spot_vector (opposite a)) (spot_vector (opposite b)) (spot_vector (opposite c))
+opposite_turn : (a b c : Spot) → turn (spot_seen a) (spot_seen b) (spot_seen c) ≡ turn (spot_seen (opposite a)) (spot_seen (opposite b)) (spot_seen (opposite c))
 opposite_turn a b c = ring (coordinates (a ∷ b ∷ c ∷ [])) (F.det (spotE (P 0)) (spotE (P 1)) (spotE (P 2))) (F.det (spotE (oppositeE (P 0))) (spotE (oppositeE (P 1))) (spotE (oppositeE (P 2)))) tt
 
 pub opposite_triangle : (xs : List Spot) → IsTriangle xs → IsTriangle (map opposite xs)
@@ -57,13 +57,13 @@ opposite_triangle (a ∷ (b ∷ (c ∷ []))) h =
 opposite_triangle (a ∷ (b ∷ (c ∷ (d ∷ rest)))) h = absurd h
 
 -- z less p is on the side of a b on which p less z is of the opposite one
-opposite_side : (a b : Spot) (z p : Vector) → turn (spot_vector a) (spot_vector b) (minus z p) ≡ turn (spot_vector (opposite a)) (spot_vector (opposite b)) (minus p z)
+opposite_side : (a b : Spot) (z p : Vector) → turn (spot_seen a) (spot_seen b) (minus z p) ≡ turn (spot_seen (opposite a)) (spot_seen (opposite b)) (minus p z)
 opposite_side a b z p =
     let zE : F.Vec = record { x = var 4; y = var 5; w = var 6 } in
     let pE : F.Vec = record { x = var 7; y = var 8; w = var 9 } in
     ring (coordinates (a ∷ b ∷ []) ++ z.x ∷ z.y ∷ z.w ∷ p.x ∷ p.y ∷ p.w ∷ []) (F.det (spotE (P 0)) (spotE (P 1)) (minusE zE pE)) (F.det (spotE (oppositeE (P 0))) (spotE (oppositeE (P 1))) (minusE pE zE)) tt
 
-opposite_holds : (xs : List Spot) (z p : Vector) → IsTriangle xs → Inside (vectors xs) (minus z p) ↔ Inside (vectors (map opposite xs)) (minus p z)
+opposite_holds : (xs : List Spot) (z p : Vector) → IsTriangle xs → Inside (spots_seen xs) (minus z p) ↔ Inside (spots_seen (map opposite xs)) (minus p z)
 opposite_holds [] z p h = absurd h
 opposite_holds (a ∷ []) z p h = absurd h
 opposite_holds (a ∷ (b ∷ [])) z p h = absurd h
@@ -77,8 +77,8 @@ opposite_holds (a ∷ (b ∷ (c ∷ (d ∷ rest)))) z p h = absurd h
 
 -- ---- both
 pub sum_of_given : (obstacle robot : List Spot) (a b : Walk) (vs : List Spot) → IsTriangle obstacle → IsTriangle robot → IsTurned obstacle (corners a) → IsTurned (map opposite robot) (corners b)
-    → ((p : Vector) → IsPoint p → Inside (vectors vs) p ↔ InSum (vectors (corners a)) (vectors (corners b)) p)
-    → (p : Vector) → IsPoint p → Inside (vectors vs) p ↔ ((z : Vector) × IsPoint z × Inside (vectors obstacle) z × Inside (vectors robot) (minus z p))
+    → ((p : Vector) → IsPoint p → Inside (spots_seen vs) p ↔ InSum (spots_seen (corners a)) (spots_seen (corners b)) p)
+    → (p : Vector) → IsPoint p → Inside (spots_seen vs) p ↔ ((z : Vector) × IsPoint z × Inside (spots_seen obstacle) z × Inside (spots_seen robot) (minus z p))
 sum_of_given obstacle robot a b vs ho hr ta tb merged p is_point =
     let back = opposite_triangle robot hr in (
       λ i. let s = (merged p is_point).0 i in

@@ -11,8 +11,8 @@ use Rattle.plan_exact.proofs.Signs.{signs, mul_pos}
 use Rattle.plan_spec.specs.Vector.{IsPoint, turn, minus}
 use Rattle.plan_spec.specs.Polygon.{Inside}
 use Rattle.plan_grid.specs.declared.spot.Spot.{Spot}
-use Rattle.plan_grid.specs.Spot.{spot_vector}
-use Rattle.plan_convex.specs.Convex.{vectors}
+use Rattle.plan_grid.specs.Spot.{spot_seen}
+use Rattle.plan_convex.specs.Convex.{spots_seen}
 use Rattle.plan_convex.specs.Plane.{plus, way, cross}
 use Rattle.plan_convex.specs.Walk.{InSum}
 use Rattle.plan_convex.proofs.Corners.{Borders}
@@ -23,25 +23,25 @@ use Rattle.plan_convex.proofs.Triangle.{InTriangle, three_sides, inside_three, b
 -- v is the sum of a spot of A and a spot of B
 pub record IsSum (A B : List Spot) (v : Spot) : Type 0 where
   pub part : Spot
-  pub first : Inside (vectors A) (spot_vector part)
-  pub second : Inside (vectors B) (spot_vector (way part v))
+  pub first : Inside (spots_seen A) (spot_seen part)
+  pub second : Inside (spots_seen B) (spot_seen (way part v))
 
 abbrev pub minusE : F.Vec → F.Vec → F.Vec
 minusE z p = record { x = z.x ⊗ p.w ⊖ p.x ⊗ z.w; y = z.y ⊗ p.w ⊖ p.y ⊗ z.w; w = z.w ⊗ p.w }
 
-pub sum_has : (A B : List Spot) (v : Spot) → IsSum A B v → InSum (vectors A) (vectors B) (spot_vector v)
+pub sum_has : (A B : List Spot) (v : Spot) → IsSum A B v → InSum (spots_seen A) (spots_seen B) (spot_seen v)
 sum_has A B v h =
-    let e : minus (spot_vector v) (spot_vector h.part) ≡ spot_vector (way h.part v) =
+    let e : minus (spot_seen v) (spot_seen h.part) ≡ spot_seen (way h.part v) =
     ring_vectors (coordinates (h.part ∷ v ∷ [])) (minusE (spotE (P 1)) (spotE (P 0))) (spotE (wayE (P 0) (P 1))) tt in
-    (spot_vector h.part, omega (arith, linear), h.first, subst (Inside (vectors B)) (sym e) h.second)
+    (spot_seen h.part, omega (arith, linear), h.first, subst (Inside (spots_seen B)) (sym e) h.second)
 
 -- ---- combinations
 -- the three weights of p in the triangle a b c
 abbrev weighted : Spot → Spot → Spot → Vector → Spot → Spot → Spot → Vector
 weighted a b c p u v w =
-    let j = turn (spot_vector b) (spot_vector c) p in
-    let k = turn (spot_vector c) (spot_vector a) p in
-    let l = turn (spot_vector a) (spot_vector b) p in
+    let j = turn (spot_seen b) (spot_seen c) p in
+    let k = turn (spot_seen c) (spot_seen a) p in
+    let l = turn (spot_seen a) (spot_seen b) p in
     record { x = j *ℤ u.x +ℤ k *ℤ v.x +ℤ l *ℤ w.x; y = j *ℤ u.y +ℤ k *ℤ v.y +ℤ l *ℤ w.y; w = j +ℤ k +ℤ l }
 
 abbrev weightsE : F.Vec → F.Vec
@@ -54,7 +54,7 @@ weightedE p u v w =
 
 module _ (a b c : Spot) (p : Vector) (turns : pos 0 <ℤ cross (way a b) (way a c)) (is_point : IsPoint p) (holds : InTriangle a b c p) where
   -- the combination of u, v, w with the weights of p is on or left of a line that has u, v, w there
-  combined_left : (s t u v w : Spot) → pos 0 ≤ℤ turn (spot_vector s) (spot_vector t) (spot_vector u) → pos 0 ≤ℤ turn (spot_vector s) (spot_vector t) (spot_vector v) → pos 0 ≤ℤ turn (spot_vector s) (spot_vector t) (spot_vector w) → pos 0 ≤ℤ turn (spot_vector s) (spot_vector t) (weighted a b c p u v w)
+  combined_left : (s t u v w : Spot) → pos 0 ≤ℤ turn (spot_seen s) (spot_seen t) (spot_seen u) → pos 0 ≤ℤ turn (spot_seen s) (spot_seen t) (spot_seen v) → pos 0 ≤ℤ turn (spot_seen s) (spot_seen t) (spot_seen w) → pos 0 ≤ℤ turn (spot_seen s) (spot_seen t) (weighted a b c p u v w)
   combined_left s t u v w hu hv hw =
       let first = holds.first in let second = holds.second in let third = holds.third in
       let l = F.det (spotE (P 3)) (spotE (P 4)) in
@@ -64,7 +64,7 @@ module _ (a b c : Spot) (p : Vector) (turns : pos 0 <ℤ cross (way a b) (way a 
       F.zero (l (weightedE (Z 8) (P 5) (P 6) (P 7))) tt (search signs) (search signs)
 
   -- the rest of p, where that combination is taken away, is one of what is left of a, b, c
-  rest_left : (s t u v w : Spot) → pos 0 ≤ℤ turn (spot_vector s) (spot_vector t) (spot_vector (way u a)) → pos 0 ≤ℤ turn (spot_vector s) (spot_vector t) (spot_vector (way v b)) → pos 0 ≤ℤ turn (spot_vector s) (spot_vector t) (spot_vector (way w c)) → pos 0 ≤ℤ turn (spot_vector s) (spot_vector t) (minus p (weighted a b c p u v w))
+  rest_left : (s t u v w : Spot) → pos 0 ≤ℤ turn (spot_seen s) (spot_seen t) (spot_seen (way u a)) → pos 0 ≤ℤ turn (spot_seen s) (spot_seen t) (spot_seen (way v b)) → pos 0 ≤ℤ turn (spot_seen s) (spot_seen t) (spot_seen (way w c)) → pos 0 ≤ℤ turn (spot_seen s) (spot_seen t) (minus p (weighted a b c p u v w))
   rest_left s t u v w hu hv hw =
       let first = holds.first in let second = holds.second in let third = holds.third in
       let l = F.det (spotE (P 3)) (spotE (P 4)) in
@@ -78,11 +78,11 @@ module _ (a b c : Spot) (p : Vector) (turns : pos 0 <ℤ cross (way a b) (way a 
       let e = ring (places (a ∷ b ∷ c ∷ []) p) (crossE (wayE (P 0) (P 1)) (wayE (P 0) (P 2)) ⊗ (Z 3).w) (weightedE (Z 3) (P 0) (P 1) (P 2)).w tt in
       omega (arith, linear, e, mul_pos turns is_point)
 
-pub sum_holds : (a0 a1 a2 b0 b1 b2 : Spot) (p : Vector) → IsPoint p → HoldingTriangle (IsSum (a0 ∷ a1 ∷ a2 ∷ []) (b0 ∷ b1 ∷ b2 ∷ [])) p → InSum (vectors (a0 ∷ a1 ∷ a2 ∷ [])) (vectors (b0 ∷ b1 ∷ b2 ∷ [])) p
+pub sum_holds : (a0 a1 a2 b0 b1 b2 : Spot) (p : Vector) → IsPoint p → HoldingTriangle (IsSum (a0 ∷ a1 ∷ a2 ∷ []) (b0 ∷ b1 ∷ b2 ∷ [])) p → InSum (spots_seen (a0 ∷ a1 ∷ a2 ∷ [])) (spots_seen (b0 ∷ b1 ∷ b2 ∷ [])) p
 sum_holds a0 a1 a2 b0 b1 b2 p is_point h =
     let u = h.has_a.part in let v = h.has_b.part in let w = h.has_c.part in
-    let in_a = λ (x : Spot) (i : Inside (vectors (a0 ∷ a1 ∷ a2 ∷ [])) (spot_vector x)). three_sides a0 a1 a2 (spot_vector x) i in
-    let in_b = λ (x : Spot) (i : Inside (vectors (b0 ∷ b1 ∷ b2 ∷ [])) (spot_vector x)). three_sides b0 b1 b2 (spot_vector x) i in
+    let in_a = λ (x : Spot) (i : Inside (spots_seen (a0 ∷ a1 ∷ a2 ∷ [])) (spot_seen x)). three_sides a0 a1 a2 (spot_seen x) i in
+    let in_b = λ (x : Spot) (i : Inside (spots_seen (b0 ∷ b1 ∷ b2 ∷ [])) (spot_seen x)). three_sides b0 b1 b2 (spot_seen x) i in
     let au = in_a u h.has_a.first in let av = in_a v h.has_b.first in let aw = in_a w h.has_c.first in
     let bu = in_b (way u h.a) h.has_a.second in let bv = in_b (way v h.b) h.has_b.second in let bw = in_b (way w h.c) h.has_c.second in
     let z = weighted h.a h.b h.c p u v w in
@@ -104,6 +104,6 @@ beside_sum v w d x z hx hz first second =
     F.zero (besideE (plusE (P 0) (P 1)) (P 2) (Z 3)) tt hz (search signs)
 
 -- the line in the direction d through the sum of two corners, where both triangles are on or left of it
-pub borders_sum : (p q r s t u d : Spot) → pos 0 <ℤ cross (way p q) (way p r) → pos 0 <ℤ cross (way s t) (way s u) → pos 0 ≤ℤ cross d (way p q) → pos 0 ≤ℤ cross d (way p r) → pos 0 ≤ℤ cross d (way s t) → pos 0 ≤ℤ cross d (way s u) → Borders (InSum (vectors (p ∷ q ∷ r ∷ [])) (vectors (s ∷ t ∷ u ∷ []))) (plus p s) d
+pub borders_sum : (p q r s t u d : Spot) → pos 0 <ℤ cross (way p q) (way p r) → pos 0 <ℤ cross (way s t) (way s u) → pos 0 ≤ℤ cross d (way p q) → pos 0 ≤ℤ cross d (way p r) → pos 0 ≤ℤ cross d (way s t) → pos 0 ≤ℤ cross d (way s u) → Borders (InSum (spots_seen (p ∷ q ∷ r ∷ [])) (spots_seen (s ∷ t ∷ u ∷ []))) (plus p s) d
 borders_sum p q r s t u d turns_a turns_b pq pr st su x is_point i =
     beside_sum p s d x i.0 is_point i.1 (beside_in_triangle p q r d i.0 turns_a (three_sides p q r i.0 i.2) pq pr) (beside_in_triangle s t u d (minus x i.0) turns_b (three_sides s t u (minus x i.0) i.3) st su)

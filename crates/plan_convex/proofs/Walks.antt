@@ -10,9 +10,9 @@ use Rattle.plan_exact.proofs.Signs.{sign_of, mul_zero}
 use Rattle.plan_spec.specs.Vector.{Before}
 use Rattle.plan_spec.specs.Polygon.{Inside}
 use Rattle.plan_grid.specs.declared.spot.Spot.{Spot}
-use Rattle.plan_grid.specs.Spot.{spot_vector, IsWithin}
+use Rattle.plan_grid.specs.Spot.{spot_seen, IsWithin}
 use Rattle.plan_convex.specs.declared.walk.Walk.{Walk}
-use Rattle.plan_convex.specs.Convex.{vectors}
+use Rattle.plan_convex.specs.Convex.{spots_seen}
 use Rattle.plan_convex.specs.Plane.{way, cross}
 use Rattle.plan_convex.specs.Walk.{corners, edge, IsStart, IsOnward}
 use Rattle.plan_convex.proofs.Least.{corners_bounded}
@@ -47,8 +47,8 @@ pub record Round (t w : Walk) : Type 0 where
   pub at_bounded : IsWithin 1023 w.at
   pub next_bounded : IsWithin 1023 w.next
   pub previous_bounded : IsWithin 1023 w.previous
-  pub same : (z : Vector) → Inside (vectors (corners t)) z → Inside (vectors (corners w)) z
-  pub back : (z : Vector) → Inside (vectors (corners w)) z → Inside (vectors (corners t)) z
+  pub same : (z : Vector) → Inside (spots_seen (corners t)) z → Inside (spots_seen (corners w)) z
+  pub back : (z : Vector) → Inside (spots_seen (corners w)) z → Inside (spots_seen (corners t)) z
   pub placed : IsPlaced baseline t.at w.edges_left w.at w.next w.previous
 
 -- ---- the next corner
@@ -87,10 +87,10 @@ way_bounded : (p q : Spot) → IsWithin 1023 p → IsWithin 1023 q → (unsigned
 way_bounded p q hp hq = (omega (arith, ints), omega (arith, ints))
 
 -- from a spot up to a later one the way rises
-later_rises : (p q : Spot) → IsWithin 1023 p → IsWithin 1023 q → Before (spot_vector p) (spot_vector q) → pos 0 <ℤ cross baseline (way p q)
+later_rises : (p q : Spot) → IsWithin 1023 p → IsWithin 1023 q → Before (spot_seen p) (spot_seen q) → pos 0 <ℤ cross baseline (way p q)
 later_rises p q hp hq later = by later
   where
-    by : Before (spot_vector p) (spot_vector q) → pos 0 <ℤ cross baseline (way p q)
+    by : Before (spot_seen p) (spot_seen q) → pos 0 <ℤ cross baseline (way p q)
     by (inl h) = omega (arith, ints)
     by (inr h) = let e = h.0 in let k = h.1 in omega (arith, ints)
 

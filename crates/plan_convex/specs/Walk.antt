@@ -4,7 +4,7 @@ use Rattle.plan_exact.specs.Vectors.{Vector}
 use Rattle.plan_spec.specs.Vector.{IsPoint, Before, minus, turn}
 use Rattle.plan_spec.specs.Polygon.{Inside}
 use Rattle.plan_grid.specs.declared.spot.Spot.{Spot}
-use Rattle.plan_grid.specs.Spot.{spot_vector, IsWithin}
+use Rattle.plan_grid.specs.Spot.{spot_seen, IsWithin}
 use Rattle.plan_convex.specs.declared.walk.Walk.{Walk}
 use Rattle.plan_convex.specs.Plane.{way, cross}
 
@@ -13,7 +13,7 @@ abbrev pub IsTriangle : List Spot → Type 0
 IsTriangle [] = ⊥
 IsTriangle (a ∷ []) = ⊥
 IsTriangle (a ∷ (b ∷ [])) = ⊥
-IsTriangle (a ∷ (b ∷ (c ∷ []))) = (pos 0 <ℤ turn (spot_vector a) (spot_vector b) (spot_vector c)) × All (IsWithin 1023) (a ∷ b ∷ c ∷ [])
+IsTriangle (a ∷ (b ∷ (c ∷ []))) = (pos 0 <ℤ turn (spot_seen a) (spot_seen b) (spot_seen c)) × All (IsWithin 1023) (a ∷ b ∷ c ∷ [])
 IsTriangle (a ∷ (b ∷ (c ∷ (d ∷ rest)))) = ⊥
 
 -- the same triangle, from its first, second or third corner on
@@ -37,8 +37,8 @@ InSum first second p = (z : Vector) × IsPoint z × Inside first z × Inside sec
 -- at the least corner of a triangle, with all three edges ahead
 pub record IsStart (w : Walk) : Type 0 where
   pub triangle : IsTriangle (corners w)
-  pub next_later : Before (spot_vector w.at) (spot_vector w.next)
-  pub previous_later : Before (spot_vector w.at) (spot_vector w.previous)
+  pub next_later : Before (spot_seen w.at) (spot_seen w.next)
+  pub previous_later : Before (spot_seen w.at) (spot_seen w.previous)
   pub edges : w.edges_left ≡ 3
 
 -- v goes on from w along one edge

@@ -1,6 +1,6 @@
 ghost use Rattle.std.specs.Prelude.{◌≡◌, ◌≤◌, ◌↔◌, length, All, IsTrue};
 ghost use Rattle.plan_spec.specs.Polygon.{IsConvex, Inside};
-ghost use Rattle.plan_convex.specs.Convex.{vectors, IsPolygon};
+ghost use Rattle.plan_convex.specs.Convex.{spots_seen, IsPolygon};
 ghost use Rattle.plan_grid.specs.Spot.{IsWithin};
 
 use crate::vertices::Vertices;
@@ -39,7 +39,7 @@ impl Convex {
         ensures value { result.now ≡ self.now }
         ensures at_least_three { 3 ≤ length self.now }
         ensures at_most_six { length self.now ≤ 6 }
-        ensures convex { IsConvex (vectors self.now) }
+        ensures convex { IsConvex (spots_seen self.now) }
         ensures bounded { All (IsWithin 2046) self.now }
     {
         self.vertices.as_slice()
@@ -47,7 +47,7 @@ impl Convex {
 
     /// Whether `z` is in the polygon or on its boundary: on or left of every edge.
     pub fn holds(&self, z: &Point) -> bool
-        ensures { IsTrue result ↔ Inside (vectors self.now) z.now }
+        ensures { IsTrue result ↔ Inside (spots_seen self.now) z.now }
     {
         let spots = self.vertices.as_slice();
         for i in 0..spots.len() {

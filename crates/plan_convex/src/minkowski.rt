@@ -2,7 +2,7 @@ ghost use Rattle.std.specs.Prelude.{◌≡◌, ◌↔◌, map};
 ghost use Rattle.plan_exact.specs.Vectors.{Vector};
 ghost use Rattle.plan_spec.specs.Vector.{IsPoint, minus};
 ghost use Rattle.plan_spec.specs.Polygon.{Inside};
-ghost use Rattle.plan_convex.specs.Convex.{vectors};
+ghost use Rattle.plan_convex.specs.Convex.{spots_seen};
 ghost use Rattle.plan_convex.specs.Plane.{opposite};
 ghost use Rattle.plan_convex.specs.Walk.{IsTriangle, corners, InSum, IsStart};
 
@@ -19,8 +19,8 @@ use plan_grid::Spot;
 pub fn sum(obstacle: [Spot; 3], robot: [Spot; 3]) -> Convex
     requires obstacle { IsTriangle obstacle }
     requires robot { IsTriangle robot }
-    ensures meaning { (p : Vector) → IsPoint p → (Inside (vectors result) p
-        ↔ ((z : Vector) × IsPoint z × Inside (vectors obstacle) z × Inside (vectors robot) (minus z p))) }
+    ensures meaning { (p : Vector) → IsPoint p → (Inside (spots_seen result) p
+        ↔ ((z : Vector) × IsPoint z × Inside (spots_seen obstacle) z × Inside (spots_seen robot) (minus z p))) }
 {
     merged(
         Walk::from_least(obstacle),
@@ -44,8 +44,8 @@ fn reflected(triangle: [Spot; 3]) -> [Spot; 3]
 fn merged(mut a: Walk, mut b: Walk) -> Convex
     requires a { IsStart a }
     requires b { IsStart b }
-    ensures { (p : Vector) → IsPoint p → (Inside (vectors result) p
-        ↔ InSum (vectors (corners a)) (vectors (corners b)) p) }
+    ensures { (p : Vector) → IsPoint p → (Inside (spots_seen result) p
+        ↔ InSum (spots_seen (corners a)) (spots_seen (corners b)) p) }
 {
     let mut vertices = Vertices::new();
     while a.edges_left + b.edges_left > 0 {

@@ -1,7 +1,7 @@
 ghost use Rattle.std.specs.Prelude.{◌≡◌, pos, ◌<◌, ◌≤◌, ◌<ℤ◌, ◌≤ℤ◌, ◌↔◌, IsTrue};
 ghost use Rattle.std.specs.Ordering.{MatchOrdering};
 ghost use Rattle.plan_spec.specs.Vector.{Before};
-ghost use Rattle.plan_grid.specs.Spot.{spot_vector, IsWithin};
+ghost use Rattle.plan_grid.specs.Spot.{spot_seen, IsWithin};
 ghost use Rattle.plan_convex.specs.Plane.{plus, way, opposite, cross};
 ghost use Rattle.plan_convex.specs.Walk.{IsTriangle, IsTurned, corners, edge, IsStart, IsOnward, IsStep};
 
@@ -103,14 +103,14 @@ pub fn opposite(p: Spot) -> Spot
 
 // Whether `p` comes before `q`, by x and then by y.
 pub fn is_before(p: Spot, q: Spot) -> bool
-    ensures { IsTrue result ↔ Before (spot_vector p) (spot_vector q) }
+    ensures { IsTrue result ↔ Before (spot_seen p) (spot_seen q) }
 {
     p.x < q.x || (p.x == q.x && p.y < q.y)
 }
 
 // Whether `p` comes before both `q` and `r`.
 fn is_first(p: Spot, q: Spot, r: Spot) -> bool
-    ensures { IsTrue result ↔ (Before (spot_vector p) (spot_vector q) × Before (spot_vector p) (spot_vector r)) }
+    ensures { IsTrue result ↔ (Before (spot_seen p) (spot_seen q) × Before (spot_seen p) (spot_seen r)) }
 {
     is_before(p, q) && is_before(p, r)
 }

@@ -6,12 +6,12 @@ use Rattle.std.proofs.lemmas.List.Elements.{All-append, All-cons, All-nil}
 use Rattle.plan_grid.specs.Bounds.{IsInRange}
 use Rattle.plan_cross.specs.declared.segment.Segment.{Segment}
 use Rattle.plan_cross.specs.declared.ends.End.{End}
-use Rattle.plan_cross.specs.Segment.{segment_of}
+use Rattle.plan_cross.specs.Segment.{segment_seen}
 use Rattle.plan_cross.specs.End.{end_vector}
 use Rattle.plan_cross.specs.Ends.{ends}
 
 pub two_more : (found : List End) (p q : End) (s : Segment) (segments : List Segment) (i : ℕ) → i < length segments → s ≡ get_or segments i s → end_vector p ≡ s.a → end_vector q ≡ s.b
-    → map end_vector ((found ++ p ∷ []) ++ q ∷ []) ++ ends (map segment_of (drop (i + 1) segments)) ≡ map end_vector found ++ ends (map segment_of (drop i segments))
+    → map end_vector ((found ++ p ∷ []) ++ q ∷ []) ++ ends (map segment_seen (drop (i + 1) segments)) ≡ map end_vector found ++ ends (map segment_seen (drop i segments))
 two_more found p q s segments i h e a b =
     let at : drop i segments ≡ s ∷ drop (i + 1) segments = rw add-one (drop-cons segments i s h ∙ ap (λ x. x ∷ drop (suc i) segments) (sym e)) in
     rw (append_assoc, map-append, append_assoc, at, a, b) refl

@@ -2,3 +2,4 @@ mod Pairs
 mod EndOrder
 mod Found
 mod HalfOpen
+mod Parity

@@ -11,9 +11,10 @@ use Rattle.std.proofs.lemmas.Int.{ints}
 use Rattle.std.proofs.lemmas.List.Sums.{sum_by-cons}
 use Rattle.std.proofs.lemmas.List.Sorted.{IsPermutation-map, All-permutation, sum_by-IsPermutation, sorted_far, ranks_by}
 use Rattle.plan_exact.specs.Vectors.{Vector}
-use Rattle.plan_spec.specs.Vector.{Same}
-use Rattle.plan_spec.specs.Segment.{Segment, xor}
-use Rattle.plan_spec.specs.Chain.{same, odd_end, IsClosed}
+use Rattle.plan_spec.specs.Vector.{Same, same}
+use Rattle.plan_spec.specs.Segment.{Segment}
+use Rattle.plan_spec.specs.Parity.{xor}
+use Rattle.plan_spec.specs.Chain.{odd_end, IsClosed}
 use Rattle.plan_grid.specs.Bounds.{IsInRange}
 use Rattle.plan_cross.specs.Ends.{ends, IsPaired}
 use Rattle.plan_grid.proofs.Unique.{equal_points}

@@ -1,11 +1,11 @@
 -- The parity laws of closed chains, over every rational point: why a closed chain that is held by collisions separates the two sides of it.
 use Rattle.std.specs.Prelude.{◌≡◌, true, false, List, All}
 use Rattle.plan_spec.specs.Vector.{Vector, IsPoint, SameX, LeX, LtY}
-use Rattle.plan_spec.specs.Segment.{Segment, On, over, parity, xor}
+use Rattle.plan_spec.specs.Segment.{Segment, On, segment, HasPoints, Common, Misses}
+use Rattle.plan_spec.specs.Parity.{over, parity, xor, counted}
 use Rattle.plan_spec.specs.Placement.{Scene}
 use Rattle.plan_spec.specs.Route.{IsRoute, IsClearPolyline}
-use Rattle.plan_spec.specs.Chain.{IsClosed, Blocks}
-use Rattle.plan_spec.specs.Parity.{segment, HasPoints, Common, Misses, counted, Crosses}
+use Rattle.plan_spec.specs.Chain.{IsClosed, Blocks, Crosses}
 
 -- of two segments without a common point, the one that is below the other at one x, at z under u, is below it at every x that both have, as at v under w
 abbrev pub TwoSegments : Type 0

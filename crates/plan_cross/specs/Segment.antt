@@ -2,5 +2,5 @@
 use Rattle.plan_spec.specs.Segment as spec
 use Rattle.plan_cross.specs.declared.segment.Segment.{Segment}
 
-abbrev pub segment_of : Segment → spec.Segment
-segment_of s = record { a = s.a; b = s.b }
+abbrev pub segment_seen : Segment → spec.Segment
+segment_seen s = record { a = s.a; b = s.b }

@@ -19,11 +19,11 @@ pub struct Chain {
 impl Model for Chain {
     ghost use Rattle.std.specs.Prelude.{List, map};
     ghost use Rattle.plan_spec.specs.Segment as spec;
-    ghost use Rattle.plan_cross.specs.Segment.{segment_of};
+    ghost use Rattle.plan_cross.specs.Segment.{segment_seen};
 
     ghost Value = { List spec.Segment };
 
-    ghost view = { λ c. map segment_of c.segments.items };
+    ghost view = { λ c. map segment_seen c.segments.items };
 }
 
 /// Whether every point is an end of the chain's segments an even number of times. Takes n log n steps for n segments,

@@ -1,8 +1,8 @@
 ghost use Rattle.std.specs.Prelude.{◌≡◌, pos, ◌*ℤ◌, ◌<ℤ◌, ◌≤◌, ◌↔◌, IsTrue, map, unsigned_abs};
 ghost use Rattle.plan_spec.specs.Vector.{LtX, turn};
-ghost use Rattle.plan_spec.specs.Segment.{over, over_from, parity};
-ghost use Rattle.plan_grid.specs.Spot.{spot_vector};
-ghost use Rattle.plan_cross.specs.Segment.{segment_of};
+ghost use Rattle.plan_spec.specs.Parity.{over, over_from, parity};
+ghost use Rattle.plan_grid.specs.Spot.{spot_seen};
+ghost use Rattle.plan_cross.specs.Segment.{segment_seen};
 
 use crate::segment::Segment;
 use plan_exact::Whole;
@@ -14,7 +14,7 @@ use plan_grid::{Point, Spot, side_of};
 pub fn over(segment: &Segment, z: Spot) -> bool
     requires x_bounded { unsigned_abs z.x ≤ 2046 }
     requires y_bounded { unsigned_abs z.y ≤ 2046 }
-    ensures { result ≡ over (segment_of segment.now) (spot_vector z) }
+    ensures { result ≡ over (segment_seen segment.now) (spot_seen z) }
 {
     over_from(&segment.a, &segment.b, z) || over_from(&segment.b, &segment.a, z)
 }
@@ -23,7 +23,7 @@ pub fn over(segment: &Segment, z: Spot) -> bool
 pub fn parity(segments: &[Segment], z: Spot) -> bool
     requires x_bounded { unsigned_abs z.x ≤ 2046 }
     requires y_bounded { unsigned_abs z.y ≤ 2046 }
-    ensures { result ≡ parity (map segment_of segments.now) (spot_vector z) }
+    ensures { result ≡ parity (map segment_seen segments.now) (spot_seen z) }
 {
     let mut odd = false;
     for segment in segments {
@@ -36,7 +36,7 @@ pub fn parity(segments: &[Segment], z: Spot) -> bool
 fn over_from(a: &Point, b: &Point, z: Spot) -> bool
     requires x_bounded { unsigned_abs z.x ≤ 2046 }
     requires y_bounded { unsigned_abs z.y ≤ 2046 }
-    ensures { result ≡ over_from a.now b.now (spot_vector z) }
+    ensures { result ≡ over_from a.now b.now (spot_seen z) }
 {
     !is_right(a, z) && is_right(b, z) && is_above(a, b, z)
 }
@@ -44,7 +44,7 @@ fn over_from(a: &Point, b: &Point, z: Spot) -> bool
 // Whether `p` is right of `z`.
 fn is_right(p: &Point, z: Spot) -> bool
     requires { unsigned_abs z.x ≤ 2046 }
-    ensures { IsTrue result ↔ LtX (spot_vector z) p.now }
+    ensures { IsTrue result ↔ LtX (spot_seen z) p.now }
 {
     weighted(z.x, p).is_below(Whole::from(p.x()))
 }
@@ -53,7 +53,7 @@ fn is_right(p: &Point, z: Spot) -> bool
 fn is_above(a: &Point, b: &Point, z: Spot) -> bool
     requires x_bounded { unsigned_abs z.x ≤ 2046 }
     requires y_bounded { unsigned_abs z.y ≤ 2046 }
-    ensures { IsTrue result ↔ (turn a.now b.now (spot_vector z) <ℤ pos 0) }
+    ensures { IsTrue result ↔ (turn a.now b.now (spot_seen z) <ℤ pos 0) }
 {
     side_of(a, b, z).is_lt()
 }

@@ -1,6 +1,6 @@
 ghost use Rattle.std.specs.Prelude.{◌≡◌, ◌↔◌, IsTrue, IfOk, All, map};
 ghost use Rattle.plan_grid.specs.Bounds.{IsInRange};
-ghost use Rattle.plan_cross.specs.Segment.{segment_of};
+ghost use Rattle.plan_cross.specs.Segment.{segment_seen};
 ghost use Rattle.plan_cross.specs.End.{end_vector};
 ghost use Rattle.plan_cross.specs.Ends.{ends, IsPaired};
 
@@ -31,7 +31,7 @@ impl End {
 
 /// The two ends of each segment, in the order of the segments.
 pub fn ends_of(alloc: Global, segments: &[Segment]) -> Result<Vec<End>, AllocError>
-    ensures value { IfOk result (λ found. map end_vector found.items ≡ ends (map segment_of segments.now)) }
+    ensures value { IfOk result (λ found. map end_vector found.items ≡ ends (map segment_seen segments.now)) }
     ensures in_range { IfOk result (λ found. All (λ e. IsInRange (end_vector e)) found.items) }
 {
     let mut found = Vec::with_capacity(alloc, 2 * segments.len())?;

@@ -5,4 +5,5 @@ pub mod Ring
 pub mod RingVectors
 pub mod Signs
 pub mod Sizes
+pub mod Tests
 pub mod Vectors

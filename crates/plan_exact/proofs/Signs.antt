@@ -22,6 +22,26 @@ pub nonneg_or_neg : (a : ℤ) → (pos 0 ≤ℤ a) ⊎ (a <ℤ pos 0)
 nonneg_or_neg (pos n) = inl (omega (arith, ints))
 nonneg_or_neg (negsuc n) = inr (omega (arith, ints))
 
+-- of two integers, the one is at most the other, or greater
+pub le_or_lt : (a b : ℤ) → (a ≤ℤ b) ⊎ (b <ℤ a)
+le_or_lt a b = by (order_of a b)
+  where
+    by : Order a b → (a ≤ℤ b) ⊎ (b <ℤ a)
+    by (is_less h) = inl (omega (arith, linear))
+    by (is_equal h) = inl (omega (arith, linear))
+    by (is_greater h) = inr h
+
+pub le_or_ge : (a b : ℤ) → (a ≤ℤ b) ⊎ (b ≤ℤ a)
+le_or_ge a b = by (order_of a b)
+  where
+    by : Order a b → (a ≤ℤ b) ⊎ (b ≤ℤ a)
+    by (is_less h) = inl (omega (arith, linear))
+    by (is_equal h) = inl (omega (arith, linear))
+    by (is_greater h) = inr (omega (arith, linear))
+
+pub weaken : {a b : ℤ} → a <ℤ b → a ≤ℤ b
+weaken h = omega (arith, linear)
+
 -- ---- signs of a product
 pub mul_nonneg : {a b : ℤ} → pos 0 ≤ℤ a → pos 0 ≤ℤ b → pos 0 ≤ℤ (a *ℤ b)
 mul_nonneg {a = pos m} {b = pos n} h k = omega (arith, ints)

@@ -1,7 +1,7 @@
 -- A frame, by its corners as points of the plane.
 use Rattle.plan_spec.specs.Placement as placement
 use Rattle.plan_grid.specs.declared.frame.Frame.{Frame}
-use Rattle.plan_grid.specs.Spot.{spot_vector}
+use Rattle.plan_grid.specs.Spot.{spot_seen}
 
-abbrev pub frame_of : Frame → placement.Frame
-frame_of f = record { low = spot_vector f.low; high = spot_vector f.high }
+abbrev pub frame_seen : Frame → placement.Frame
+frame_seen f = record { low = spot_seen f.low; high = spot_seen f.high }

@@ -5,11 +5,11 @@ use Rattle.plan_spec.specs.Vector.{spot}
 use Rattle.plan_spec.specs.Segment.{Segment}
 use Rattle.plan_grid.specs.declared.spot.Spot.{Spot}
 
-abbrev pub spot_vector : Spot → Vector
-spot_vector s = spot s.x s.y
+abbrev pub spot_seen : Spot → Vector
+spot_seen s = spot s.x s.y
 
-abbrev pub spot_segment : Spot → Spot → Segment
-spot_segment a b = record { a = spot_vector a; b = spot_vector b }
+abbrev pub edge_seen : Spot → Spot → Segment
+edge_seen a b = record { a = spot_seen a; b = spot_seen b }
 
 -- both coordinates are at most k in absolute value
 pub record IsWithin (k : ℕ) (s : Spot) : Type 0 where

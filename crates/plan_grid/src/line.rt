@@ -3,7 +3,7 @@ ghost use Rattle.plan_spec.specs.Vector.{turn};
 ghost use Rattle.plan_spec.specs.Segment.{On};
 ghost use Rattle.plan_grid.specs.Fraction.{SameValue, IsRatio, height_of, point_at};
 ghost use Rattle.plan_grid.specs.Order.{IsSign};
-ghost use Rattle.plan_grid.specs.Spot.{spot_vector, spot_segment, IsBetween, IsInBox, IsWithin};
+ghost use Rattle.plan_grid.specs.Spot.{spot_seen, edge_seen, IsBetween, IsInBox, IsWithin};
 
 use crate::order::sign;
 use crate::point::Point;
@@ -14,7 +14,7 @@ use std::cmp::Ordering;
 
 /// The cross product of `b - a` and `c - a`: positive where `c` is left of the line from `a` to `b`.
 pub fn side(a: Spot, b: Spot, c: Spot) -> i128
-    ensures { result ≡ turn (spot_vector a) (spot_vector b) (spot_vector c) }
+    ensures { result ≡ turn (spot_seen a) (spot_seen b) (spot_seen c) }
 {
     let bx = step(a.x, b.x);
     let by = step(a.y, b.y);
@@ -26,7 +26,7 @@ pub fn side(a: Spot, b: Spot, c: Spot) -> i128
 /// The cross product of `b - a` and `z - a`, times the weight of `z`: positive where `z` is left of the line from
 /// `a` to `b`, 0 where it is on it.
 pub fn turn_at(a: Spot, b: Spot, z: &Point) -> Whole
-    ensures value { result ≡ turn (spot_vector a) (spot_vector b) z.now }
+    ensures value { result ≡ turn (spot_seen a) (spot_seen b) z.now }
     ensures size { unsigned_abs result < 2 ^ 117 }
 {
     let w = Whole::from(z.w());
@@ -42,7 +42,7 @@ pub fn turn_at(a: Spot, b: Spot, z: &Point) -> Whole
 pub fn side_of(a: &Point, b: &Point, c: Spot) -> Ordering
     requires x_bounded { unsigned_abs c.x ≤ 2046 }
     requires y_bounded { unsigned_abs c.y ≤ 2046 }
-    ensures { IsSign result (turn a.now b.now (spot_vector c)) }
+    ensures { IsSign result (turn a.now b.now (spot_seen c)) }
 {
     let a_weight = Whole::from(a.w());
     let b_weight = Whole::from(b.w());
@@ -61,8 +61,8 @@ pub fn height(a: Spot, b: Spot, x: Ratio) -> Ratio
     requires a_bounded { IsWithin 2046 a }
     requires b_bounded { IsWithin 2046 b }
     requires den_bounded { unsigned_abs x.den < 2 ^ 26 }
-    ensures on_segment { On (spot_segment a b) (point_at x result) }
-    ensures value { SameValue result (height_of (spot_vector a) (spot_vector b) x) }
+    ensures on_segment { On (edge_seen a b) (point_at x result) }
+    ensures value { SameValue result (height_of (spot_seen a) (spot_seen b) x) }
     ensures in_range { IsRatio result }
 {
     let past = way_to(a.x, x);
@@ -86,7 +86,7 @@ fn way_to(a: i32, x: Ratio) -> Whole
 
 /// Whether `z` is on the segment from `a` to `b`, its ends included; where `a` is `b`, whether it is that point.
 pub fn on_segment(a: Spot, b: Spot, z: &Point) -> bool
-    ensures { IsTrue result ↔ On (spot_segment a b) z.now }
+    ensures { IsTrue result ↔ On (edge_seen a b) z.now }
 {
     turn_at(a, b, z).is_zero() && is_in_box(a, b, z)
 }
@@ -121,7 +121,7 @@ fn crossed(ux: Whole, uy: Whole, vx: Whole, vy: Whole) -> Whole
 
 // Whether `z` is in the box of `a` and `b`, its sides included.
 fn is_in_box(a: Spot, b: Spot, z: &Point) -> bool
-    ensures { IsTrue result ↔ IsInBox (spot_vector a) (spot_vector b) z.now }
+    ensures { IsTrue result ↔ IsInBox (spot_seen a) (spot_seen b) z.now }
 {
     let w = Whole::from(z.w());
     is_between(a.x, b.x, z.x(), w) && is_between(a.y, b.y, z.y(), w)

@@ -1,7 +1,7 @@
 ghost use Rattle.std.specs.Prelude.{◌≡◌, ℕ, ◌<◌, ◌≤◌, ◌*◌, ◌^◌, ◌↔◌, unsigned_abs, IsTrue, IsNone, IfSome};
 ghost use Rattle.std.specs.declared.cmp.Ordering.TheVariants.{Equal};
 ghost use Rattle.plan_spec.specs.Vector.{Same};
-ghost use Rattle.plan_grid.specs.Spot.{spot_vector};
+ghost use Rattle.plan_grid.specs.Spot.{spot_seen};
 ghost use Rattle.plan_grid.specs.Bounds.{IsInRange, IsBounded, IsBeyond};
 ghost use Rattle.plan_grid.specs.Fraction.{IsLcm, point_at};
 ghost use Rattle.plan_grid.specs.Order.{IsPointOrder};
@@ -78,7 +78,7 @@ impl Point {
     pub fn of(spot: Spot) -> Point
         requires x_bounded { unsigned_abs spot.x ≤ 2046 }
         requires y_bounded { unsigned_abs spot.y ≤ 2046 }
-        ensures { result ≡ spot_vector spot }
+        ensures { result ≡ spot_seen spot }
     {
         Point {
             x: i64::from(spot.x),

@@ -1,10 +1,11 @@
 -- The definitions, tried on worked cases: each line is computed.
 use Rattle.std.proofs.Common.{◌≡◌, ℤ, pos, negsuc, true, false, List, [], ◌∷◌, refl}
 use Rattle.plan_spec.specs.Vector.{spot, turn}
-use Rattle.plan_spec.specs.Segment.{Segment, parity}
-use Rattle.plan_spec.specs.Polygon.{counterclockwise}
+use Rattle.plan_spec.specs.Segment.{Segment}
+use Rattle.plan_spec.specs.Parity.{parity}
+use Rattle.plan_spec.specs.Polygon.{counterclockwise_triangle}
 use Rattle.plan_spec.specs.Chain.{odd_end}
-use Rattle.plan_spec.specs.Reply.{legs}
+use Rattle.plan_spec.specs.Route.{legs}
 
 abbrev flat : ℤ → ℤ → ℤ → ℤ → Segment
 flat ax ay bx by = record { a = spot ax ay; b = spot bx by }
@@ -48,7 +49,7 @@ loose_end : odd_end (flat (pos 0) (pos 0) (pos 8) (pos 0) ∷ []) (record { x = 
 loose_end = refl
 
 -- a triangle in either direction of turning
-turned : counterclockwise (spot (pos 0) (pos 0) ∷ spot (pos 0) (pos 1) ∷ spot (pos 1) (pos 0) ∷ []) ≡ spot (pos 0) (pos 0) ∷ spot (pos 1) (pos 0) ∷ spot (pos 0) (pos 1) ∷ []
+turned : counterclockwise_triangle (spot (pos 0) (pos 0) ∷ spot (pos 0) (pos 1) ∷ spot (pos 1) (pos 0) ∷ []) ≡ spot (pos 0) (pos 0) ∷ spot (pos 1) (pos 0) ∷ spot (pos 0) (pos 1) ∷ []
 turned = refl
 
 left_turn : turn (spot (pos 0) (pos 0)) (spot (pos 1) (pos 0)) (spot (pos 0) (pos 1)) ≡ pos 1

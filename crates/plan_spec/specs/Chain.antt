@@ -1,13 +1,10 @@
 -- Chains of segments: closed, held, and what they block. A chain need not be one loop.
-use Rattle.std.specs.Prelude.{◌≡◌, ◌*ℤ◌, Bool, true, false, ◌&&◌, List, [], ◌∷◌, All}
-use Rattle.std.specs.Ordering.{int_eq}
-use Rattle.plan_spec.specs.Vector.{Vector, IsPoint, Same}
-use Rattle.plan_spec.specs.Segment.{Segment, On, parity, xor}
+use Rattle.std.specs.Prelude.{◌≡◌, Bool, true, false, List, [], ◌∷◌, All, Any}
+use Rattle.plan_spec.specs.Vector.{Vector, IsPoint, Same, same}
+use Rattle.plan_spec.specs.Segment.{Segment, On}
+use Rattle.plan_spec.specs.Parity.{parity, xor}
 use Rattle.plan_spec.specs.Placement.{Scene, Touches}
-
--- whether two triples are one position
-abbrev pub same : Vector → Vector → Bool
-same p q = int_eq (p.x *ℤ q.w) (q.x *ℤ p.w) && int_eq (p.y *ℤ q.w) (q.y *ℤ p.w)
+use Rattle.plan_spec.specs.Route.{OnRoute}
 
 -- whether z is an end of the segments an odd number of times, by position and not by triple
 abbrev pub odd_end : List Segment → Vector → Bool
@@ -33,3 +30,7 @@ pub record Blocks (scene : Scene) (s g : Vector) (chain : List Segment) : Type 0
   pub held : IsHeld scene chain
   pub odd : parity chain s ≡ true
   pub even : parity chain g ≡ false
+
+-- some rational point of the route is on a segment of the chain
+abbrev pub Crosses : List Vector → List Segment → Type 0
+Crosses route chain = (z : Vector) × IsPoint z × OnRoute route z × Any (λ s. On s z) chain

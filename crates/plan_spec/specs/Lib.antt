@@ -1,8 +1,9 @@
 pub mod Vector
 pub mod Segment
+pub mod Parity
 pub mod Polygon
+pub mod Frame
 pub mod Placement
 pub mod Route
-pub mod Chain
-pub mod Parity
 pub mod Reply
+pub mod Chain

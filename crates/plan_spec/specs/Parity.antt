@@ -1,29 +1,26 @@
--- Common points, and the ends that change parity along a segment.
-use Rattle.std.specs.Prelude.{pos, ◌*ℤ◌, Bool, ◌&&◌, List, All, Any, int_lt, int_le}
-use Rattle.plan_spec.specs.Vector.{Vector, IsPoint, turn}
-use Rattle.plan_spec.specs.Segment.{Segment, On}
-use Rattle.plan_spec.specs.Route.{OnRoute}
+-- The segments that stand over a point, and whether they are odd in number: the even-odd rule.
+use Rattle.std.specs.Prelude.{pos, ◌*ℤ◌, Bool, true, false, ◌&&◌, ◌||◌, not, List, [], ◌∷◌, int_lt, int_le}
+use Rattle.plan_spec.specs.Vector.{Vector, turn}
+use Rattle.plan_spec.specs.Segment.{Segment}
 
--- the segment from p to q
-abbrev pub segment : Vector → Vector → Segment
-segment p q = record { a = p; b = q }
+-- whether the segment from its left end a to b stands over z: half open, so that a point under a common end counts once, and strictly above z
+abbrev pub over_from : Vector → Vector → Vector → Bool
+over_from a b z = int_le (a.x *ℤ z.w) (z.x *ℤ a.w) && (int_lt (z.x *ℤ b.w) (b.x *ℤ z.w) && int_lt (turn a b z) (pos 0))
 
--- both ends are points
-abbrev pub HasPoints : Segment → Type 0
-HasPoints s = IsPoint s.a × IsPoint s.b
+-- the same with the ends in either order; a vertical segment stands over nothing
+abbrev pub over : Segment → Vector → Bool
+over s z = over_from s.a s.b z || over_from s.b s.a z
 
--- some rational point is on both segments
-abbrev pub Common : Segment → Segment → Type 0
-Common s t = (z : Vector) × IsPoint z × On s z × On t z
+-- one of the two, and not both
+abbrev pub xor : Bool → Bool → Bool
+xor true b = not b
+xor false b = b
 
--- no segment of the chain has a point in common with the path
-abbrev pub Misses : Segment → List Segment → Type 0
-Misses path chain = All (λ s. ¬ (Common path s)) chain
+-- whether an odd number of the segments stands over z
+abbrev pub parity : List Segment → Vector → Bool
+parity [] z = false
+parity (s ∷ ss) z = xor (over s z) (parity ss z)
 
--- whether e is above the line from p to q, right of p and not right of q
+-- whether e is above the line from p to q, right of p and not right of q: an end under which a way from p to q passes
 abbrev pub counted : Vector → Vector → Vector → Bool
 counted p q e = int_lt (p.x *ℤ e.w) (e.x *ℤ p.w) && (int_le (e.x *ℤ q.w) (q.x *ℤ e.w) && int_lt (pos 0) (turn p q e))
-
--- some rational point of the route is on a segment of the chain
-abbrev pub Crosses : List Vector → List Segment → Type 0
-Crosses route chain = (z : Vector) × IsPoint z × OnRoute route z × Any (λ s. On s z) chain

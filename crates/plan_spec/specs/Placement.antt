@@ -1,13 +1,10 @@
 -- A robot placed at a point, among obstacles in a frame: what it touches.
 use Rattle.std.specs.Prelude.{ℕ, List, ◌⊎◌, Any}
-use Rattle.plan_spec.specs.Vector.{Vector, IsPoint, LeX, LeY, minus}
-use Rattle.plan_spec.specs.Polygon.{Inside, counterclockwise}
+use Rattle.plan_spec.specs.Vector.{Vector, IsPoint, minus}
+use Rattle.plan_spec.specs.Frame.{Frame, OnOrBeyond}
+use Rattle.plan_spec.specs.Polygon.{Inside, counterclockwise_triangle}
 
--- an axis-parallel rectangle, by its lower left and its upper right corner
-pub record Frame : Type 0 where
-  pub low : Vector
-  pub high : Vector
-
+-- an obstacle by its id and its vertices
 pub record Obstacle : Type 0 where
   pub id : ℕ
   pub shape : List Vector
@@ -20,15 +17,11 @@ pub record Scene : Type 0 where
 
 -- a point of a triangle, whose vertices may be given in either direction of turning
 abbrev pub Holds : List Vector → Vector → Type 0
-Holds shape z = Inside (counterclockwise shape) z
+Holds shape z = Inside (counterclockwise_triangle shape) z
 
 -- the robot, placed at p, has a point in common with the obstacle
 abbrev pub Meets : List Vector → List Vector → Vector → Type 0
 Meets robot obstacle p = (z : Vector) × IsPoint z × Holds obstacle z × Holds robot (minus z p)
-
--- z is on a side of the frame, or beyond it
-abbrev pub OnOrBeyond : Frame → Vector → Type 0
-OnOrBeyond frame z = LeX z frame.low ⊎ (LeX frame.high z ⊎ (LeY z frame.low ⊎ LeY frame.high z))
 
 -- some point of the robot, placed at p, is not strictly inside the frame
 abbrev pub Leaves : List Vector → Frame → Vector → Type 0

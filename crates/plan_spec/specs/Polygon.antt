@@ -1,13 +1,13 @@
 -- Lists of vertices, their edges, and what they hold.
 use Rattle.std.specs.Prelude.{pos, ◌<ℤ◌, ◌≤ℤ◌, ◌⊎◌, List, [], ◌∷◌, All, AllPairs, int_lt, if◌then◌else◌}
 use Rattle.plan_spec.specs.Vector.{Vector, Same, Before, turn}
-use Rattle.plan_spec.specs.Segment.{Segment}
+use Rattle.plan_spec.specs.Segment.{Segment, segment}
 
 -- from each vertex to the next, and from the last to the one handed in
 abbrev pub edges_to : Vector → List Vector → List Segment
 edges_to first [] = []
-edges_to first (a ∷ []) = record { a = a; b = first } ∷ []
-edges_to first (a ∷ (b ∷ vs)) = record { a = a; b = b } ∷ edges_to first (b ∷ vs)
+edges_to first (a ∷ []) = segment a first ∷ []
+edges_to first (a ∷ (b ∷ vs)) = segment a b ∷ edges_to first (b ∷ vs)
 
 -- the edges of a polygon, each from a vertex to the next one round
 abbrev pub edges : List Vector → List Segment
@@ -31,15 +31,14 @@ abbrev pub IsFromLeast : List Vector → Type 0
 IsFromLeast [] = Unit {0}
 IsFromLeast (v ∷ vs) = All (Before v) vs
 
--- strictly convex and counterclockwise, from the least vertex on: the vertices differ, and of every edge all but its two ends are strictly left, so no three are in line
+-- strictly convex and counterclockwise, from the least vertex on: the vertices differ, and of every edge all but its two ends are
+-- strictly left, so no three are in line
 pub record IsConvex (vs : List Vector) : Type 0 where
   pub least : IsFromLeast vs
   pub distinct : AllPairs (λ a b. ¬ (Same a b)) vs
   pub left : All (λ s. All (EndOrLeft s) vs) (edges vs)
 
--- a triangle's vertices counterclockwise, from the first one on
-abbrev pub counterclockwise : List Vector → List Vector
-counterclockwise [] = []
-counterclockwise (a ∷ []) = a ∷ []
-counterclockwise (a ∷ b ∷ []) = a ∷ b ∷ []
-counterclockwise (a ∷ b ∷ c ∷ vs) = if int_lt (turn a b c) (pos 0) then a ∷ c ∷ b ∷ vs else a ∷ b ∷ c ∷ vs
+-- the vertices of a triangle counterclockwise, from the first one on; no other list is a triangle
+abbrev pub counterclockwise_triangle : List Vector → List Vector
+counterclockwise_triangle (a ∷ b ∷ c ∷ []) = if int_lt (turn a b c) (pos 0) then a ∷ c ∷ b ∷ [] else a ∷ b ∷ c ∷ []
+counterclockwise_triangle _ = []

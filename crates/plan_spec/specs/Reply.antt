@@ -1,21 +1,16 @@
 -- What makes a path an accepted certificate, and the first of its faults.
-use Rattle.std.specs.Prelude.{◌≡◌, ℕ, List, [], ◌∷◌, ◌<◌, slice_get, IfSome, IsSomeAnd}
+use Rattle.std.specs.Prelude.{◌≡◌, ℕ, List, [], ◌<◌, slice_get, IfSome, IsSomeAnd}
 use Rattle.plan_spec.specs.Vector.{Vector, IsPoint}
 use Rattle.plan_spec.specs.Segment.{Segment, On}
 use Rattle.plan_spec.specs.Placement.{Scene, Touches}
-use Rattle.plan_spec.specs.Route.{segments, StartsAt, EndsAt}
+use Rattle.plan_spec.specs.Route.{legs, StartsAt, EndsAt}
 
+-- what may be wrong with a path; the number of a segment counts from 0
 pub data PathFault : Type 0 where
   empty_path : PathFault
   wrong_start : PathFault
   wrong_goal : PathFault
   touches : ℕ → PathFault
-
--- the segments of a path, numbered from 0; a path of one point has the one segment from that point to itself
-abbrev pub legs : List Vector → List Segment
-legs [] = []
-legs (p ∷ []) = record { a = p; b = p } ∷ []
-legs (p ∷ (q ∷ ps)) = segments (p ∷ (q ∷ ps))
 
 -- some rational point of the segment touches
 abbrev pub SegmentTouches : Scene → Segment → Type 0

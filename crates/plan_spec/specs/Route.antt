@@ -1,17 +1,23 @@
 -- Polylines, and those along which the robot never touches.
 use Rattle.std.specs.Prelude.{◌⊎◌, List, [], ◌∷◌, All, Any}
 use Rattle.plan_spec.specs.Vector.{Vector, IsPoint, Same}
-use Rattle.plan_spec.specs.Segment.{Segment, On}
+use Rattle.plan_spec.specs.Segment.{Segment, segment, On}
 use Rattle.plan_spec.specs.Placement.{Scene, IsClear}
 
 -- the segments between neighbours of the list that begins with p
 abbrev pub segments_from : Vector → List Vector → List Segment
 segments_from p [] = []
-segments_from p (q ∷ qs) = record { a = p; b = q } ∷ segments_from q qs
+segments_from p (q ∷ qs) = segment p q ∷ segments_from q qs
 
 abbrev pub segments : List Vector → List Segment
 segments [] = []
 segments (p ∷ ps) = segments_from p ps
+
+-- the segments of a path, numbered from 0; a path of one point has the one segment from that point to itself
+abbrev pub legs : List Vector → List Segment
+legs [] = []
+legs (p ∷ []) = segment p p ∷ []
+legs (p ∷ (q ∷ ps)) = segments (p ∷ (q ∷ ps))
 
 -- z is a point of the list, or on a segment between neighbours
 abbrev pub OnRoute : List Vector → Vector → Type 0

@@ -1,11 +1,19 @@
--- Segments, the points on them, and the points that they stand over.
-use Rattle.std.specs.Prelude.{◌≡◌, pos, ◌*ℤ◌, ◌⊎◌, Bool, true, false, ◌&&◌, ◌||◌, not, List, [], ◌∷◌, int_lt, int_le}
-use Rattle.plan_spec.specs.Vector.{Vector, LeX, LeY, turn}
+-- Segments, the points on them, and the points that two have in common.
+use Rattle.std.specs.Prelude.{◌≡◌, pos, ◌⊎◌, List, All}
+use Rattle.plan_spec.specs.Vector.{Vector, IsPoint, LeX, LeY, turn}
 
 -- a segment by its two ends, in the order in which they were given
 pub record Segment : Type 0 where
   pub a : Vector
   pub b : Vector
+
+-- the segment from p to q
+abbrev pub segment : Vector → Vector → Segment
+segment p q = record { a = p; b = q }
+
+-- both ends are points
+abbrev pub HasPoints : Segment → Type 0
+HasPoints s = IsPoint s.a × IsPoint s.b
 
 -- z is in one line with the ends, and in their box; where the ends are one point, that point alone
 pub record On (s : Segment) (z : Vector) : Type 0 where
@@ -13,20 +21,10 @@ pub record On (s : Segment) (z : Vector) : Type 0 where
   pub within_x : (LeX s.a z × LeX z s.b) ⊎ (LeX s.b z × LeX z s.a)
   pub within_y : (LeY s.a z × LeY z s.b) ⊎ (LeY s.b z × LeY z s.a)
 
--- whether the segment from its left end a to b stands over z: half open, so that a point under a common end counts once, and strictly above z
-abbrev pub over_from : Vector → Vector → Vector → Bool
-over_from a b z = int_le (a.x *ℤ z.w) (z.x *ℤ a.w) && (int_lt (z.x *ℤ b.w) (b.x *ℤ z.w) && int_lt (turn a b z) (pos 0))
+-- some rational point is on both segments
+abbrev pub Common : Segment → Segment → Type 0
+Common s t = (z : Vector) × IsPoint z × On s z × On t z
 
--- the same with the ends in either order; a vertical segment stands over nothing
-abbrev pub over : Segment → Vector → Bool
-over s z = over_from s.a s.b z || over_from s.b s.a z
-
--- one of the two, and not both
-abbrev pub xor : Bool → Bool → Bool
-xor true b = not b
-xor false b = b
-
--- whether an odd number of the segments stands over z
-abbrev pub parity : List Segment → Vector → Bool
-parity [] z = false
-parity (s ∷ ss) z = xor (over s z) (parity ss z)
+-- no segment of the list has a point in common with the path
+abbrev pub Misses : Segment → List Segment → Type 0
+Misses path chain = All (λ s. ¬ (Common path s)) chain

@@ -1,5 +1,6 @@
 -- Points of the plane in homogeneous whole-number coordinates.
-use Rattle.std.specs.Prelude.{◌≡◌, ℤ, pos, ◌-ℤ◌, ◌*ℤ◌, ◌≤ℤ◌, ◌<ℤ◌, ◌⊎◌}
+use Rattle.std.specs.Prelude.{◌≡◌, ℤ, pos, ◌-ℤ◌, ◌*ℤ◌, ◌≤ℤ◌, ◌<ℤ◌, ◌⊎◌, Bool, ◌&&◌}
+use Rattle.std.specs.Ordering.{int_eq}
 use Rattle.plan_exact.specs.Vectors.{det}
 pub use Rattle.plan_exact.specs.Vectors.{Vector}
 
@@ -38,6 +39,10 @@ SameY p q = p.y *ℤ q.w ≡ q.y *ℤ p.w
 -- one position, whatever the triples
 abbrev pub Same : Vector → Vector → Type 0
 Same p q = SameX p q × SameY p q
+
+-- whether two triples are one position
+abbrev pub same : Vector → Vector → Bool
+same p q = int_eq (p.x *ℤ q.w) (q.x *ℤ p.w) && int_eq (p.y *ℤ q.w) (q.y *ℤ p.w)
 
 -- p comes before q: by x, then by y
 abbrev pub Before : Vector → Vector → Type 0

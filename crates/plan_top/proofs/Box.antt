@@ -4,13 +4,14 @@ use Rattle.std.specs.Int.{int_min, int_max}
 use Rattle.std.proofs.lemmas.Int.{ints, int_min_is, int_max_is}
 use Rattle.std.proofs.lemmas.List.Elements.{All-nil, All-cons}
 use Rattle.plan_spec.specs.Vector.{Vector, spot}
-use Rattle.plan_spec.specs.Placement.{Leaves, OnOrBeyond}
-use Rattle.plan_spec.proofs.Room.{IsBox, room, leaves}
+use Rattle.plan_spec.specs.Placement.{Leaves}
+use Rattle.plan_spec.specs.Frame.{OnOrBeyond}
+use Rattle.plan_top.proofs.Leaving.{IsBox, room, leaves}
 use Rattle.plan_grid.specs.declared.frame.Frame.{Frame}
 use Rattle.plan_grid.specs.declared.spot.Spot.{Spot}
-use Rattle.plan_grid.specs.Spot.{spot_vector, IsWithin}
-use Rattle.plan_grid.specs.Frame.{frame_of}
-use Rattle.plan_convex.specs.Convex.{vectors}
+use Rattle.plan_grid.specs.Spot.{spot_seen, IsWithin}
+use Rattle.plan_grid.specs.Frame.{frame_seen}
+use Rattle.plan_convex.specs.Convex.{spots_seen}
 use Rattle.plan_wire.specs.Fits.{IsShape}
 use Rattle.plan_top.specs.Room.{IsRoom}
 use Rattle.plan_convex.proofs.Least.{corner}
@@ -65,11 +66,11 @@ max_bounds a b c =
     let f = int_max_is (int_max a b) c in
     (omega (arith, ints), omega (arith, ints), omega (arith, ints))
 
-box : (a b c : Spot) → IsBox (spot_vector a ∷ spot_vector b ∷ spot_vector c ∷ []) (record { low = spot_vector (low a b c); high = spot_vector (high a b c) })
+box : (a b c : Spot) → IsBox (spot_seen a ∷ spot_seen b ∷ spot_seen c ∷ []) (record { low = spot_seen (low a b c); high = spot_seen (high a b c) })
 box a b c =
-    let p = spot_vector a in
-    let q = spot_vector b in
-    let r = spot_vector c in
+    let p = spot_seen a in
+    let q = spot_seen b in
+    let r = spot_seen c in
     let lx = min_bounds a.x b.x c.x in
     let ly = min_bounds a.y b.y c.y in
     let hx = max_bounds a.x b.x c.x in
@@ -96,9 +97,9 @@ room_is (a ∷ []) frame m n h mx my nx ny = absurd (let e = h.three in omega ar
 room_is (a ∷ (b ∷ [])) frame m n h mx my nx ny = absurd (let e = h.three in omega arith)
 room_is (a ∷ (b ∷ (c ∷ (d ∷ s)))) frame m n h mx my nx ny = absurd (let e = h.three in omega arith)
 room_is (a ∷ (b ∷ (c ∷ []))) frame m n h mx my nx ny =
-    let moved : room (record { low = spot_vector (low a b c); high = spot_vector (high a b c) }) (frame_of frame) ≡ frame_of (record { low = m; high = n }) =
+    let moved : room (record { low = spot_seen (low a b c); high = spot_seen (high a b c) }) (frame_seen frame) ≡ frame_seen (record { low = m; high = n }) =
     (λ i. record { low = spot (sym mx i) (sym my i); high = spot (sym nx i) (sym ny i) }) in
-    λ p hp. subst (λ r. Leaves (vectors (a ∷ b ∷ c ∷ [])) (frame_of frame) p ↔ OnOrBeyond r p) moved (leaves (spot_vector a) (spot_vector b) (spot_vector c) _ (frame_of frame) p (h.turned a b c refl) (box a b c) refl refl hp)
+    λ p hp. subst (λ r. Leaves (spots_seen (a ∷ b ∷ c ∷ [])) (frame_seen frame) p ↔ OnOrBeyond r p) moved (leaves (spot_seen a) (spot_seen b) (spot_seen c) _ (frame_seen frame) p (h.turned a b c refl) (box a b c) refl refl hp)
 
 -- ---- its corners are no farther than the robot's
 within_of : (a b c m : ℤ) → unsigned_abs a ≤ 1023 → unsigned_abs b ≤ 1023 → unsigned_abs c ≤ 1023 → (a ≡ m) ⊎ ((b ≡ m) ⊎ (c ≡ m)) → unsigned_abs m ≤ 1023

@@ -4,7 +4,7 @@ use Rattle.plan_exact.proofs.Laws.{linear}
 use Rattle.plan_exact.proofs.Vectors.{det_swapped_right}
 use Rattle.plan_spec.specs.Vector.{turn}
 use Rattle.plan_grid.specs.declared.spot.Spot.{Spot}
-use Rattle.plan_grid.specs.Spot.{spot_vector}
+use Rattle.plan_grid.specs.Spot.{spot_seen}
 use Rattle.plan_convex.specs.Walk.{IsTriangle}
 use Rattle.plan_convex.proofs.Least.{corner, triangle_from}
 use Rattle.plan_wire.specs.Fits.{IsShape}
@@ -13,7 +13,7 @@ abbrev pub origin : Spot
 origin = record { x = pos 0; y = pos 0 }
 
 abbrev pub corner_turn : List Spot → ℤ
-corner_turn s = turn (spot_vector (corner s 0)) (spot_vector (corner s 1)) (spot_vector (corner s 2))
+corner_turn s = turn (spot_seen (corner s 0)) (spot_seen (corner s 1)) (spot_seen (corner s 2))
 
 pub left_as_given : (s : List Spot) → IsShape s → pos 0 ≤ℤ corner_turn s → IsTriangle (corner s 0 ∷ corner s 1 ∷ corner s 2 ∷ [])
 left_as_given [] h left = absurd (let e = h.three in omega arith)
@@ -30,4 +30,4 @@ left_turned (a ∷ []) h right = absurd (let e = h.three in omega arith)
 left_turned (a ∷ (b ∷ [])) h right = absurd (let e = h.three in omega arith)
 left_turned (a ∷ (b ∷ (c ∷ (d ∷ s)))) h right = absurd (let e = h.three in omega arith)
 left_turned (a ∷ (b ∷ (c ∷ []))) h right =
-    triangle_from a c b (omega (arith, linear, det_swapped_right (spot_vector a) (spot_vector b) (spot_vector c))) (h.bounded 0 a (omega arith)) (h.bounded 2 a (omega arith)) (h.bounded 1 a (omega arith))
+    triangle_from a c b (omega (arith, linear, det_swapped_right (spot_seen a) (spot_seen b) (spot_seen c))) (h.bounded 0 a (omega arith)) (h.bounded 2 a (omega arith)) (h.bounded 1 a (omega arith))

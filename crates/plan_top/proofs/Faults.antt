@@ -9,18 +9,19 @@ use Rattle.plan_exact.proofs.Signs.{mul_one}
 use Rattle.plan_spec.specs.Vector.{IsPoint, Same}
 use Rattle.plan_spec.specs.Segment.{Segment}
 use Rattle.plan_spec.specs.Polygon.{Inside}
-use Rattle.plan_spec.specs.Placement.{Leaves, Meets, OnOrBeyond}
-use Rattle.plan_spec.specs.Route.{StartsAt, EndsAt}
-use Rattle.plan_spec.specs.Reply.{legs, SegmentTouches, FirstTouching}
-use Rattle.plan_spec.proofs.Room.{segment_beyond}
-use Rattle.plan_spec.proofs.Paths.{clear_polyline}
-use Rattle.plan_spec.proofs.Touching.{Along, touches_where, along_alike}
+use Rattle.plan_spec.specs.Placement.{Leaves, Meets}
+use Rattle.plan_spec.specs.Frame.{OnOrBeyond}
+use Rattle.plan_spec.specs.Route.{StartsAt, EndsAt, legs}
+use Rattle.plan_spec.specs.Reply.{SegmentTouches, FirstTouching}
+use Rattle.plan_top.proofs.Leaving.{segment_beyond}
+use Rattle.plan_top.proofs.ClearPaths.{clear_polyline}
+use Rattle.plan_top.proofs.Touching.{Along, touches_where, along_alike}
 use Rattle.plan_grid.specs.declared.frame.Frame.{Frame}
 use Rattle.plan_grid.specs.declared.spot.Spot.{Spot}
-use Rattle.plan_grid.specs.Frame.{frame_of}
-use Rattle.plan_grid.specs.Spot.{spot_vector}
-use Rattle.plan_convex.specs.Convex.{vectors}
-use Rattle.plan_wire.specs.First.{seen, obstacle_seen}
+use Rattle.plan_grid.specs.Frame.{frame_seen}
+use Rattle.plan_grid.specs.Spot.{spot_seen}
+use Rattle.plan_convex.specs.Convex.{spots_seen}
+use Rattle.plan_wire.specs.First.{document_seen, obstacle_seen}
 use Rattle.plan_wire.specs.declared.document.FirstDocument.{FirstDocument}
 use Rattle.plan_top.specs.Legs.{IsSumOf, HoldsSome, LegTouches, IsFirstLeg}
 use Rattle.plan_top.specs.Room.{IsRoom}
@@ -30,17 +31,17 @@ use Rattle.plan_convex.proofs.Least.{corner}
 use Rattle.plan_top.proofs.Segments.{all_legs}
 
 -- ---- the ends
-same_spots : (p q : Spot) → Same (spot_vector p) (spot_vector q) → p ≡ q
+same_spots : (p q : Spot) → Same (spot_seen p) (spot_seen q) → p ≡ q
 same_spots p q (ex, ey) = spot_is (sym (mul_one p.x) ∙ ex ∙ mul_one q.x) (sym (mul_one p.y) ∙ ey ∙ mul_one q.y)
 
-same_if : (p q : Spot) → p ≡ q → Same (spot_vector p) (spot_vector q)
+same_if : (p q : Spot) → p ≡ q → Same (spot_seen p) (spot_seen q)
 same_if p q e = (ap (λ s. s.x *ℤ pos 1) e, ap (λ s. s.y *ℤ pos 1) e)
 
-pub starts_at : (s : Spot) (path : List Spot) → 0 < length path → StartsAt (spot_vector s) (vectors path) ↔ (corner path 0 ≡ s)
+pub starts_at : (s : Spot) (path : List Spot) → 0 < length path → StartsAt (spot_seen s) (spots_seen path) ↔ (corner path 0 ≡ s)
 starts_at s [] some = absurd (omega arith)
 starts_at s (p ∷ ps) some = (same_spots p s, same_if p s)
 
-pub ends_at : (g : Spot) (path : List Spot) → 0 < length path → EndsAt (spot_vector g) (vectors path) ↔ (corner path (length path - 1) ≡ g)
+pub ends_at : (g : Spot) (path : List Spot) → 0 < length path → EndsAt (spot_seen g) (spots_seen path) ↔ (corner path (length path - 1) ≡ g)
 ends_at g [] some = absurd (omega arith)
 ends_at g (p ∷ []) some = (same_spots p g, same_if p g)
 ends_at g (p ∷ (q ∷ ps)) some =
@@ -68,8 +69,8 @@ are_other p q e same = let t = (spots_decide p q).1 same in by (int_eq p.x q.x &
 pub is_some : (path : List Spot) → false ≡ (length path == 0) → 0 < length path
 is_some path e = grind (arith, nat_tests)
 
-pub not_empty : (path : List Spot) → 0 < length path → ¬ (vectors path ≡ [])
-not_empty path some e = omega (arith, ap length e, length-map path spot_vector)
+pub not_empty : (path : List Spot) → 0 < length path → ¬ (spots_seen path ≡ [])
+not_empty path some e = omega (arith, ap length e, length-map path spot_seen)
 
 -- ---- one segment
 any_first : {A B : Type 0} (P : A → Type 0) (Q : B → Type 0) (x : A) (xs : List A) (y : B) (ys : List B) → (P x → Q y) → (Any P xs → Any Q ys) → Any P (x ∷ xs) → Any Q (y ∷ ys)
@@ -90,50 +91,50 @@ abbrev HasPoints : Segment → Type 0
 HasPoints s = IsPoint s.a × IsPoint s.b
 
 module _ (d : FirstDocument) (room : Frame) (sums : List (List Spot)) (is_room : IsRoom d.robot d.frame room) (are_sums : AllZip (IsSumOf d.robot) d.obstacles.items sums) where
-  leg_touches : (s : Segment) → HasPoints s → LegTouches room sums s ↔ SegmentTouches (seen d).scene s
+  leg_touches : (s : Segment) → HasPoints s → LegTouches room sums s ↔ SegmentTouches (document_seen d).scene s
   leg_touches s (ha, hb) = (into, out)
     where
-      where_touches : SegmentTouches (seen d).scene s ↔ (Along s (Leaves (vectors d.robot) (frame_of d.frame)) ⊎ Any (λ o. Along s (Meets (vectors d.robot) o.shape)) (map obstacle_seen d.obstacles.items))
-      where_touches = touches_where (seen d).scene s
+      where_touches : SegmentTouches (document_seen d).scene s ↔ (Along s (Leaves (spots_seen d.robot) (frame_seen d.frame)) ⊎ Any (λ o. Along s (Meets (spots_seen d.robot) o.shape)) (map obstacle_seen d.obstacles.items))
+      where_touches = touches_where (document_seen d).scene s
 
-      at_ends : Along s (OnOrBeyond (frame_of room)) ↔ (OnOrBeyond (frame_of room) s.a ⊎ OnOrBeyond (frame_of room) s.b)
-      at_ends = segment_beyond (frame_of room) s.a s.b ha hb
+      at_ends : Along s (OnOrBeyond (frame_seen room)) ↔ (OnOrBeyond (frame_seen room) s.a ⊎ OnOrBeyond (frame_seen room) s.b)
+      at_ends = segment_beyond (frame_seen room) s.a s.b ha hb
 
-      leaves : Along s (Leaves (vectors d.robot) (frame_of d.frame)) ↔ Along s (OnOrBeyond (frame_of room))
-      leaves = along_alike s (Leaves (vectors d.robot) (frame_of d.frame)) (OnOrBeyond (frame_of room)) is_room
+      leaves : Along s (Leaves (spots_seen d.robot) (frame_seen d.frame)) ↔ Along s (OnOrBeyond (frame_seen room))
+      leaves = along_alike s (Leaves (spots_seen d.robot) (frame_seen d.frame)) (OnOrBeyond (frame_seen room)) is_room
 
-      meets : Any (λ o. Along s (Meets (vectors d.robot) o.shape)) (map obstacle_seen d.obstacles.items) ↔ Any (HoldsSome s) sums
-      meets = any_mapped obstacle_seen (IsSumOf d.robot) (λ o. Along s (Meets (vectors d.robot) o.shape)) (HoldsSome s)
-          (λ o sum is_sum. let alike = along_alike s (Inside (vectors sum)) (Meets (vectors d.robot) (vectors o.spots)) is_sum in (alike.1, alike.0))
+      meets : Any (λ o. Along s (Meets (spots_seen d.robot) o.shape)) (map obstacle_seen d.obstacles.items) ↔ Any (HoldsSome s) sums
+      meets = any_mapped obstacle_seen (IsSumOf d.robot) (λ o. Along s (Meets (spots_seen d.robot) o.shape)) (HoldsSome s)
+          (λ o sum is_sum. let alike = along_alike s (Inside (spots_seen sum)) (Meets (spots_seen d.robot) (spots_seen o.spots)) is_sum in (alike.1, alike.0))
           d.obstacles.items sums are_sums
 
-      into : LegTouches room sums s → SegmentTouches (seen d).scene s
+      into : LegTouches room sums s → SegmentTouches (document_seen d).scene s
       into (inl h) = where_touches.1 (inl (leaves.1 (at_ends.1 h)))
       into (inr h) = where_touches.1 (inr (meets.1 h))
 
-      out : SegmentTouches (seen d).scene s → LegTouches room sums s
+      out : SegmentTouches (document_seen d).scene s → LegTouches room sums s
       out h = ⊎_elim (λ k. inl (at_ends.0 (leaves.0 k))) (λ k. inr (meets.0 k)) (where_touches.0 h)
 
   -- ---- all segments
-  alike : 0 < length d.path.items → All (λ s. LegTouches room sums s ↔ SegmentTouches (seen d).scene s) (legs (vectors d.path.items))
+  alike : 0 < length d.path.items → All (λ s. LegTouches room sums s ↔ SegmentTouches (document_seen d).scene s) (legs (spots_seen d.path.items))
   alike some k s within = leg_touches _ (all_legs HasPoints d.path.items some (λ j lt. (omega (arith, ints), omega (arith, ints))) k s within)
 
-  pub valid : 0 < length d.path.items → StartsAt (seen d).start (seen d).path → EndsAt (seen d).goal (seen d).path → All (λ s. ¬ (LegTouches room sums s)) (legs (vectors d.path.items)) → IsValid (seen d)
+  pub valid : 0 < length d.path.items → StartsAt (document_seen d).start (document_seen d).path → EndsAt (document_seen d).goal (document_seen d).path → All (λ s. ¬ (LegTouches room sums s)) (legs (spots_seen d.path.items)) → IsValid (document_seen d)
   valid some starts ends misses =
-      clear_polyline (seen d).scene (seen d).start (seen d).goal (vectors d.path.items) (All-map IsPoint spot_vector d.path.items (λ k p within. omega (arith, ints))) starts ends
+      clear_polyline (document_seen d).scene (document_seen d).start (document_seen d).goal (spots_seen d.path.items) (All-map IsPoint spot_seen d.path.items (λ k p within. omega (arith, ints))) starts ends
       (λ k s within touches. misses k s within ((alike some k s within).1 touches))
 
-  pub first_touching : (k : ℕ) → 0 < length d.path.items → IsFirstLeg (LegTouches room sums) (legs (vectors d.path.items)) k → FirstTouching (seen d).scene (seen d).path k
+  pub first_touching : (k : ℕ) → 0 < length d.path.items → IsFirstLeg (LegTouches room sums) (legs (spots_seen d.path.items)) k → FirstTouching (document_seen d).scene (document_seen d).path k
   first_touching k some h = record {
-    touching = some_alike (legs (vectors d.path.items)) k (alike some) h.has;
-    earlier = λ j below. none_alike (legs (vectors d.path.items)) j (alike some) (h.earlier j below);
+    touching = some_alike (legs (spots_seen d.path.items)) k (alike some) h.has;
+    earlier = λ j below. none_alike (legs (spots_seen d.path.items)) j (alike some) (h.earlier j below);
   }
     where
       P : Segment → Type 0
       P = LegTouches room sums
 
       Q : Segment → Type 0
-      Q = SegmentTouches (seen d).scene
+      Q = SegmentTouches (document_seen d).scene
 
       some_alike : (ss : List Segment) (k : ℕ) → All (λ s. P s ↔ Q s) ss → IsSomeAnd (slice_get ss k) P → IsSomeAnd (slice_get ss k) Q
       some_alike [] k h p = p

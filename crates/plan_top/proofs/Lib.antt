@@ -5,3 +5,6 @@ mod Corners
 mod Box
 mod Segments
 mod Faults
+mod Leaving
+mod ClearPaths
+mod Touching

@@ -3,8 +3,8 @@ use Rattle.plan_spec.specs.Reply.{PathFault, empty_path, wrong_start, wrong_goal
 use Rattle.plan_top.specs.declared.check_fault.CheckFault.{CheckFault}
 use Rattle.plan_top.specs.declared.check_fault.CheckFault.TheVariants.{EmptyPath, WrongStart, WrongGoal, Touches}
 
-abbrev pub path_fault : CheckFault → PathFault
-path_fault EmptyPath = empty_path
-path_fault WrongStart = wrong_start
-path_fault WrongGoal = wrong_goal
-path_fault (Touches k) = touches k
+abbrev pub fault_seen : CheckFault → PathFault
+fault_seen EmptyPath = empty_path
+fault_seen WrongStart = wrong_start
+fault_seen WrongGoal = wrong_goal
+fault_seen (Touches k) = touches k

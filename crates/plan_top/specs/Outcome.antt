@@ -4,7 +4,7 @@ use Rattle.plan_spec.specs.Route.{IsClearPolyline}
 use Rattle.plan_spec.specs.Reply.{IsFirstFault}
 use Rattle.plan_wire.specs.Stream.{Rose, Appends, AppendsPart}
 use Rattle.plan_wire.specs.Document.{First, first_of}
-use Rattle.plan_top.specs.Fault.{path_fault}
+use Rattle.plan_top.specs.Fault.{fault_seen}
 use Rattle.plan_top.specs.Text.{usage_line, later_line, valid_line, invalid_line}
 use Rattle.plan_top.specs.declared.check_fault.CheckFault.{CheckFault}
 use Rattle.plan_top.specs.declared.status.Refusal.TheVariants.{Later}
@@ -29,7 +29,7 @@ IsValid d = IsClearPolyline d.scene d.start d.goal d.path
 
 -- this is the first fault of the path
 abbrev pub IsInvalid : CheckFault → First → Type 0
-IsInvalid fault d = IsFirstFault d.scene d.start d.goal d.path (path_fault fault)
+IsInvalid fault d = IsFirstFault d.scene d.start d.goal d.path (fault_seen fault)
 
 -- a lawful answer of `check` to the bytes, where they are told: the status, and the line that is written
 abbrev pub IsAnswer : Option (List ℕ) → Status → List ℕ → Type 0

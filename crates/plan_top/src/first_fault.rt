@@ -1,6 +1,6 @@
 ghost use Rattle.std.specs.Prelude.{IfOk, MatchOption};
 ghost use Rattle.plan_wire.specs.Fits.{Fits};
-ghost use Rattle.plan_wire.specs.First.{seen};
+ghost use Rattle.plan_wire.specs.First.{document_seen};
 ghost use Rattle.plan_top.specs.Outcome.{IsValid, IsInvalid};
 
 use crate::check_fault::CheckFault;
@@ -14,7 +14,7 @@ use std::alloc::Global;
 pub fn first_fault(alloc: Global, document: &FirstDocument) -> Result<Option<CheckFault>, NoMemory>
     requires { Fits document.now }
     ensures { IfOk result (λ found. MatchOption found
-        (IsValid (seen document.now)) (λ fault. IsInvalid fault (seen document.now))) }
+        (IsValid (document_seen document.now)) (λ fault. IsInvalid fault (document_seen document.now))) }
 {
     let path = document.path.as_slice();
     if path.is_empty() {

@@ -1,8 +1,8 @@
 ghost use Rattle.std.specs.Prelude.{◌≡◌, ◌<◌, ◌≤◌, ◌^◌, ◌↔◌, length, All, IsTrue, IfOk, MatchOption};
 ghost use Rattle.std.specs.List.{AllZip};
-ghost use Rattle.plan_spec.specs.Reply.{legs};
-ghost use Rattle.plan_grid.specs.Spot.{spot_segment, IsWithin};
-ghost use Rattle.plan_convex.specs.Convex.{vectors};
+ghost use Rattle.plan_spec.specs.Route.{legs};
+ghost use Rattle.plan_grid.specs.Spot.{edge_seen, IsWithin};
+ghost use Rattle.plan_convex.specs.Convex.{spots_seen};
 ghost use Rattle.plan_wire.specs.Fits.{IsShape};
 ghost use Rattle.plan_top.specs.Legs.{IsSumOf, LegTouches, IsFirstLeg};
 
@@ -37,8 +37,8 @@ pub fn first_touching(room: Frame, sums: &[Convex], path: &[Spot]) -> Option<u32
     requires few { length path.now < 2 ^ 32 }
     requires bounded { All (IsWithin 2046) path.now }
     ensures { MatchOption result
-        (All (λ s. ¬ (LegTouches room sums.now s)) (legs (vectors path.now)))
-        (IsFirstLeg (LegTouches room sums.now) (legs (vectors path.now))) }
+        (All (λ s. ¬ (LegTouches room sums.now s)) (legs (spots_seen path.now)))
+        (IsFirstLeg (LegTouches room sums.now) (legs (spots_seen path.now))) }
 {
     let last = path.len() - 1;
     for k in 0..last.max(1) {
@@ -53,7 +53,7 @@ pub fn first_touching(room: Frame, sums: &[Convex], path: &[Spot]) -> Option<u32
 fn touches(room: Frame, sums: &[Convex], a: Spot, b: Spot) -> bool
     requires a_bounded { IsWithin 2046 a }
     requires b_bounded { IsWithin 2046 b }
-    ensures { IsTrue result ↔ LegTouches room sums.now (spot_segment a b) }
+    ensures { IsTrue result ↔ LegTouches room sums.now (edge_seen a b) }
 {
     if is_on_or_beyond(room, a) {
         return true;

@@ -1,9 +1,9 @@
 ghost use Rattle.std.specs.Prelude.{◌≡◌, ◌-ℤ◌, ◌⊎◌, ◌↔◌, IsTrue};
 ghost use Rattle.std.specs.Int.{int_min, int_max};
 ghost use Rattle.plan_spec.specs.Vector.{LeX, LeY};
-ghost use Rattle.plan_spec.specs.Placement.{OnOrBeyond};
-ghost use Rattle.plan_grid.specs.Frame.{frame_of};
-ghost use Rattle.plan_grid.specs.Spot.{spot_vector, IsWithin};
+ghost use Rattle.plan_spec.specs.Frame.{OnOrBeyond};
+ghost use Rattle.plan_grid.specs.Frame.{frame_seen};
+ghost use Rattle.plan_grid.specs.Spot.{spot_seen, IsWithin};
 ghost use Rattle.plan_wire.specs.Fits.{IsFrame, IsShape};
 ghost use Rattle.plan_top.specs.Room.{IsRoom};
 
@@ -59,7 +59,7 @@ fn minus(p: Spot, q: Spot) -> Spot
 
 /// Whether the spot is on a side of the frame or beyond it.
 pub fn is_on_or_beyond(frame: Frame, p: Spot) -> bool
-    ensures { IsTrue result ↔ OnOrBeyond (frame_of frame) (spot_vector p) }
+    ensures { IsTrue result ↔ OnOrBeyond (frame_seen frame) (spot_seen p) }
 {
     is_left_or_below(p, frame.low) || is_left_or_below(frame.high, p)
 }
@@ -67,7 +67,7 @@ pub fn is_on_or_beyond(frame: Frame, p: Spot) -> bool
 // Whether `p` is left of `q` or below it, or level with it either way.
 fn is_left_or_below(p: Spot, q: Spot) -> bool
     ensures { IsTrue result
-        ↔ (LeX (spot_vector p) (spot_vector q) ⊎ LeY (spot_vector p) (spot_vector q)) }
+        ↔ (LeX (spot_seen p) (spot_seen q) ⊎ LeY (spot_seen p) (spot_seen q)) }
 {
     p.x <= q.x || p.y <= q.y
 }

@@ -10,12 +10,12 @@ use Rattle.std.proofs.lemmas.Option.{cond_some, same_Some, some_pair_parts, opti
 use Rattle.serde_json.specs.Data.{Data}
 use Rattle.serde_json.specs.Find.{as_i64, as_number, get}
 use Rattle.plan_spec.specs.Vector.{spot, turn}
-use Rattle.plan_grid.specs.Spot.{spot_vector, IsWithin}
-use Rattle.plan_grid.specs.Frame.{frame_of}
+use Rattle.plan_grid.specs.Spot.{spot_seen, IsWithin}
+use Rattle.plan_grid.specs.Frame.{frame_seen}
 use Rattle.plan_grid.specs.declared.frame.Frame.{Frame}
 use Rattle.plan_grid.specs.declared.spot.Spot.{Spot}
 use Rattle.plan_wire.specs.Document.{whole, within, natural, spot_from, spot_of, is_triangle, shape_of, frame_from, query_from, point_from, point_of, obstacle_of, obstacles_of, differ, path_of, first_from, each, given, elements}
-use Rattle.plan_wire.specs.First.{obstacle_seen, seen}
+use Rattle.plan_wire.specs.First.{obstacle_seen, document_seen}
 use Rattle.plan_wire.specs.Fits.{IsShape, IsFrame, Fits}
 use Rattle.plan_wire.specs.declared.document.FirstDocument.{FirstDocument}
 use Rattle.plan_wire.specs.declared.document.FirstShape.{FirstShape}
@@ -44,27 +44,27 @@ whole_bounded limit v z read =
     let tests = both_true _ _ (passed (λ n. int_le (neg_ℤ (pos limit)) n && int_le n (pos limit)) (option_and_then as_i64 (as_number v)) z read).1 in
     bounded limit z tests.0 tests.1
 
-spot_bounded : (limit : ℕ) (v w : Data) (s : Spot) → spot_from limit (v ∷ w ∷ []) ≡ Some (spot_vector s) → IsWithin limit s
+spot_bounded : (limit : ℕ) (v w : Data) (s : Spot) → spot_from limit (v ∷ w ∷ []) ≡ Some (spot_seen s) → IsWithin limit s
 unfolding spot_from
 spot_bounded limit v w s read =
-    option_and_then_some _ (within limit v) (spot_vector s) read (λ x x_read rest.
-    option_and_then_some _ (within limit w) (spot_vector s) rest (λ y y_read same.
-    let is : spot x y ≡ spot_vector s = same_Some _ _ same in
+    option_and_then_some _ (within limit v) (spot_seen s) read (λ x x_read rest.
+    option_and_then_some _ (within limit w) (spot_seen s) rest (λ y y_read same.
+    let is : spot x y ≡ spot_seen s = same_Some _ _ same in
     record {
       x = whole_bounded limit v s.x (rw (← ap (λ p. p.x) is) x_read);
       y = whole_bounded limit w s.y (rw (← ap (λ p. p.y) is) y_read);
     }))
 
-list_bounded : (limit : ℕ) (items : List Data) (s : Spot) → spot_from limit items ≡ Some (spot_vector s) → IsWithin limit s
+list_bounded : (limit : ℕ) (items : List Data) (s : Spot) → spot_from limit items ≡ Some (spot_seen s) → IsWithin limit s
 unfolding spot_from
 list_bounded limit (x ∷ y ∷ []) s read = spot_bounded limit x y s read
 list_bounded limit [] s read = cc
 list_bounded limit (x ∷ []) s read = cc
 list_bounded limit (x ∷ y ∷ z ∷ rest) s read = cc
 
-shape_spot_bounded : (v : Data) (s : Spot) → spot_of v ≡ Some (spot_vector s) → IsWithin 1023 s
+shape_spot_bounded : (v : Data) (s : Spot) → spot_of v ≡ Some (spot_seen s) → IsWithin 1023 s
 unfolding spot_of
-shape_spot_bounded v s read = option_and_then_some (spot_from 1023) (elements v) (spot_vector s) read (λ items _ rest. list_bounded 1023 items s rest)
+shape_spot_bounded v s read = option_and_then_some (spot_from 1023) (elements v) (spot_seen s) read (λ items _ rest. list_bounded 1023 items s rest)
 
 -- what each value that is read keeps to, the list of them keeps to
 each_keeps : {X B : Type 0} (P : X → Type 0) (f : Data → Option B) (seen : X → B) → ((v : Data) (x : X) → f v ≡ Some (seen x) → P x) → (vs : List Data) (xs : List X) → each f vs ≡ Some (map seen xs) → All P xs
@@ -78,7 +78,7 @@ each_keeps P f seen keeps (v ∷ vs) (x ∷ xs) read =
     let others : each f vs ≡ Some (map seen xs) = cc in
     All-cons P x xs (keeps v x first) (each_keeps P f seen keeps vs xs others)))
 
-three_spots : (spots : List Spot) → is_triangle (map spot_vector spots) ≡ true → length spots ≡ 3
+three_spots : (spots : List Spot) → is_triangle (map spot_seen spots) ≡ true → length spots ≡ 3
 three_spots (a ∷ b ∷ c ∷ []) test = refl
 three_spots [] test = cc
 three_spots (a ∷ []) test = cc
@@ -91,31 +91,31 @@ not_in_line z test zero =
     let both : not true ≡ true = rw flat at test in
     cc
 
-turned_spots : (spots : List Spot) (a b c : Spot) → is_triangle (map spot_vector spots) ≡ true → spots ≡ a ∷ b ∷ c ∷ [] → turn (spot_vector a) (spot_vector b) (spot_vector c) ≢ pos 0
-turned_spots spots a b c test is = not_in_line _ (ap (λ spots. is_triangle (map spot_vector spots)) (sym is) ∙ test)
+turned_spots : (spots : List Spot) (a b c : Spot) → is_triangle (map spot_seen spots) ≡ true → spots ≡ a ∷ b ∷ c ∷ [] → turn (spot_seen a) (spot_seen b) (spot_seen c) ≢ pos 0
+turned_spots spots a b c test is = not_in_line _ (ap (λ spots. is_triangle (map spot_seen spots)) (sym is) ∙ test)
 
-shape_kept : (v : Data) (spots : List Spot) → shape_of v ≡ Some (map spot_vector spots) → IsShape spots
+shape_kept : (v : Data) (spots : List Spot) → shape_of v ≡ Some (map spot_seen spots) → IsShape spots
 unfolding shape_of
 shape_kept v spots read =
-    let p = passed is_triangle (option_and_then (each spot_of) (elements v)) (map spot_vector spots) read in
+    let p = passed is_triangle (option_and_then (each spot_of) (elements v)) (map spot_seen spots) read in
     record {
       three = three_spots spots p.1;
-      bounded = option_and_then_some (each spot_of) (elements v) (map spot_vector spots) p.0 (λ items _ rest. each_keeps (IsWithin 1023) spot_of spot_vector shape_spot_bounded items spots rest);
+      bounded = option_and_then_some (each spot_of) (elements v) (map spot_seen spots) p.0 (λ items _ rest. each_keeps (IsWithin 1023) spot_of spot_seen shape_spot_bounded items spots rest);
       turned = λ a b c is. turned_spots spots a b c p.1 is;
     }
 
 below : (a b : ℤ) → int_lt a b ≡ true → a <ℤ b
 below a b test = grind (arith, ints)
 
-frame_of_four : (x1 y1 x2 y2 : Data) (f : Frame) → frame_from (x1 ∷ y1 ∷ x2 ∷ y2 ∷ []) ≡ Some (frame_of f) → IsFrame f
+frame_of_four : (x1 y1 x2 y2 : Data) (f : Frame) → frame_from (x1 ∷ y1 ∷ x2 ∷ y2 ∷ []) ≡ Some (frame_seen f) → IsFrame f
 unfolding frame_from
 frame_of_four x1 y1 x2 y2 f read =
-    option_and_then_some _ (spot_from 1023 (x1 ∷ y1 ∷ [])) (frame_of f) read (λ low low_read rest.
-    option_and_then_some _ (spot_from 1023 (x2 ∷ y2 ∷ [])) (frame_of f) rest (λ high high_read test.
-    let c = cond_some (int_lt low.x high.x && int_lt low.y high.y) _ (frame_of f) test in
+    option_and_then_some _ (spot_from 1023 (x1 ∷ y1 ∷ [])) (frame_seen f) read (λ low low_read rest.
+    option_and_then_some _ (spot_from 1023 (x2 ∷ y2 ∷ [])) (frame_seen f) rest (λ high high_read test.
+    let c = cond_some (int_lt low.x high.x && int_lt low.y high.y) _ (frame_seen f) test in
     let tests = both_true (int_lt low.x high.x) (int_lt low.y high.y) c.0 in
-    let is_low : low ≡ spot_vector f.low = ap (λ g. g.low) c.1 in
-    let is_high : high ≡ spot_vector f.high = ap (λ g. g.high) c.1 in
+    let is_low : low ≡ spot_seen f.low = ap (λ g. g.low) c.1 in
+    let is_high : high ≡ spot_seen f.high = ap (λ g. g.high) c.1 in
     record {
       low = spot_bounded 1023 x1 y1 f.low (low_read ∙ ap Some is_low);
       high = spot_bounded 1023 x2 y2 f.high (high_read ∙ ap Some is_high);
@@ -123,7 +123,7 @@ frame_of_four x1 y1 x2 y2 f read =
       tall = below f.low.y f.high.y (rw (is_low, is_high) at tests.1);
     }))
 
-frame_kept : (items : List Data) (f : Frame) → frame_from items ≡ Some (frame_of f) → IsFrame f
+frame_kept : (items : List Data) (f : Frame) → frame_from items ≡ Some (frame_seen f) → IsFrame f
 unfolding frame_from
 frame_kept (x1 ∷ y1 ∷ x2 ∷ y2 ∷ []) f read = frame_of_four x1 y1 x2 y2 f read
 frame_kept [] f read = cc
@@ -132,15 +132,15 @@ frame_kept (a ∷ b ∷ []) f read = cc
 frame_kept (a ∷ b ∷ c ∷ []) f read = cc
 frame_kept (a ∷ b ∷ c ∷ d ∷ e ∷ rest) f read = cc
 
-query_of_four : (sx sy gx gy : Data) (start goal : Spot) → query_from (sx ∷ sy ∷ gx ∷ gy ∷ []) ≡ Some (spot_vector start, spot_vector goal) → IsWithin 2046 start × IsWithin 2046 goal
+query_of_four : (sx sy gx gy : Data) (start goal : Spot) → query_from (sx ∷ sy ∷ gx ∷ gy ∷ []) ≡ Some (spot_seen start, spot_seen goal) → IsWithin 2046 start × IsWithin 2046 goal
 unfolding query_from
 query_of_four sx sy gx gy start goal read =
-    option_and_then_some _ (spot_from 2046 (sx ∷ sy ∷ [])) (spot_vector start, spot_vector goal) read (λ s s_read rest.
-    option_and_then_some _ (spot_from 2046 (gx ∷ gy ∷ [])) (spot_vector start, spot_vector goal) rest (λ g g_read same.
-    let parts = some_pair_parts s (spot_vector start) g (spot_vector goal) same in
+    option_and_then_some _ (spot_from 2046 (sx ∷ sy ∷ [])) (spot_seen start, spot_seen goal) read (λ s s_read rest.
+    option_and_then_some _ (spot_from 2046 (gx ∷ gy ∷ [])) (spot_seen start, spot_seen goal) rest (λ g g_read same.
+    let parts = some_pair_parts s (spot_seen start) g (spot_seen goal) same in
     (spot_bounded 2046 sx sy start (s_read ∙ ap Some parts.0), spot_bounded 2046 gx gy goal (g_read ∙ ap Some parts.1))))
 
-query_kept : (items : List Data) (start goal : Spot) → query_from items ≡ Some (spot_vector start, spot_vector goal) → IsWithin 2046 start × IsWithin 2046 goal
+query_kept : (items : List Data) (start goal : Spot) → query_from items ≡ Some (spot_seen start, spot_seen goal) → IsWithin 2046 start × IsWithin 2046 goal
 unfolding query_from
 query_kept (sx ∷ sy ∷ gx ∷ gy ∷ []) start goal read = query_of_four sx sy gx gy start goal read
 query_kept [] start goal read = cc
@@ -149,14 +149,14 @@ query_kept (a ∷ b ∷ []) start goal read = cc
 query_kept (a ∷ b ∷ c ∷ []) start goal read = cc
 query_kept (a ∷ b ∷ c ∷ d ∷ e ∷ rest) start goal read = cc
 
-point_of_three : (x y w : Data) (p : Spot) → point_from (x ∷ y ∷ w ∷ []) ≡ Some (spot_vector p) → IsWithin 2046 p
+point_of_three : (x y w : Data) (p : Spot) → point_from (x ∷ y ∷ w ∷ []) ≡ Some (spot_seen p) → IsWithin 2046 p
 unfolding point_from
 point_of_three x y w p read =
-    option_and_then_some _ (spot_from 2046 (x ∷ y ∷ [])) (spot_vector p) read (λ q q_read rest.
-    option_and_then_some _ (whole (pos 1) (pos 1) w) (spot_vector p) rest (λ _ _ same.
+    option_and_then_some _ (spot_from 2046 (x ∷ y ∷ [])) (spot_seen p) read (λ q q_read rest.
+    option_and_then_some _ (whole (pos 1) (pos 1) w) (spot_seen p) rest (λ _ _ same.
     spot_bounded 2046 x y p (q_read ∙ same)))
 
-point_list_kept : (items : List Data) (p : Spot) → point_from items ≡ Some (spot_vector p) → IsWithin 2046 p
+point_list_kept : (items : List Data) (p : Spot) → point_from items ≡ Some (spot_seen p) → IsWithin 2046 p
 unfolding point_from
 point_list_kept (x ∷ y ∷ w ∷ []) p read = point_of_three x y w p read
 point_list_kept [] p read = cc
@@ -164,9 +164,9 @@ point_list_kept (a ∷ []) p read = cc
 point_list_kept (a ∷ b ∷ []) p read = cc
 point_list_kept (a ∷ b ∷ c ∷ d ∷ rest) p read = cc
 
-point_kept : (v : Data) (p : Spot) → point_of v ≡ Some (spot_vector p) → IsWithin 2046 p
+point_kept : (v : Data) (p : Spot) → point_of v ≡ Some (spot_seen p) → IsWithin 2046 p
 unfolding point_of
-point_kept v p read = option_and_then_some point_from (elements v) (spot_vector p) read (λ items _ rest. point_list_kept items p rest)
+point_kept v p read = option_and_then_some point_from (elements v) (spot_seen p) read (λ items _ rest. point_list_kept items p rest)
 
 IsGood : FirstShape → Type 0
 IsGood o = ((1 ≤ o.id) × (o.id ≤ 65535)) × IsShape o.spots
@@ -196,23 +196,23 @@ obstacles_kept v os read =
       option_and_then_some (each obstacle_of) (elements v) (map obstacle_seen os) p.0 (λ items _ rest. each_keeps IsGood obstacle_of obstacle_seen obstacle_kept items os rest),
     )
 
-path_kept : (v : Data) (path : List Spot) → path_of v ≡ Some (map spot_vector path) → All (IsWithin 2046) path
+path_kept : (v : Data) (path : List Spot) → path_of v ≡ Some (map spot_seen path) → All (IsWithin 2046) path
 unfolding path_of
 path_kept v path read =
-    option_and_then_some _ (get (codes "path") v) (map spot_vector path) read (λ items _ rest.
-    let listed = cond_some_of (is_none (get (codes "chain") v)) (option_and_then (each point_of) (elements items)) (map spot_vector path) rest in
-    option_and_then_some (each point_of) (elements items) (map spot_vector path) listed (λ vs _ vs_read. each_keeps (IsWithin 2046) point_of spot_vector point_kept vs path vs_read))
+    option_and_then_some _ (get (codes "path") v) (map spot_seen path) read (λ items _ rest.
+    let listed = cond_some_of (is_none (get (codes "chain") v)) (option_and_then (each point_of) (elements items)) (map spot_seen path) rest in
+    option_and_then_some (each point_of) (elements items) (map spot_seen path) listed (λ vs _ vs_read. each_keeps (IsWithin 2046) point_of spot_seen point_kept vs path vs_read))
 
-pub fits_where_read : (v : Data) (d : FirstDocument) → first_from v ≡ Some (seen d) → Fits d
+pub fits_where_read : (v : Data) (d : FirstDocument) → first_from v ≡ Some (document_seen d) → Fits d
 unfolding first_from IsGood
 fits_where_read v d read =
-    option_and_then_some _ (option_and_then (whole (pos 1) (pos 1)) (get (codes "format") v)) (seen d) read (λ _ _ after_format.
-    option_and_then_some _ (option_and_then frame_from (option_and_then elements (get (codes "frame") v))) (seen d) after_format (λ frame frame_read after_frame.
-    option_and_then_some _ (option_and_then shape_of (get (codes "robot") v)) (seen d) after_frame (λ robot robot_read after_robot.
-    option_and_then_some _ (option_and_then obstacles_of (get (codes "obstacles") v)) (seen d) after_robot (λ obstacles obstacles_read after_obstacles.
-    option_and_then_some _ (option_and_then query_from (option_and_then elements (get (codes "query") v))) (seen d) after_obstacles (λ query query_read after_query.
-    option_and_then_some _ (option_and_then path_of (get (codes "certificate") v)) (seen d) after_query (λ path path_read same.
-    let is : (record { scene = record { frame = frame; robot = robot; obstacles = obstacles }; start = query.0; goal = query.1; path = path }) ≡ seen d = same_Some _ _ same in
+    option_and_then_some _ (option_and_then (whole (pos 1) (pos 1)) (get (codes "format") v)) (document_seen d) read (λ _ _ after_format.
+    option_and_then_some _ (option_and_then frame_from (option_and_then elements (get (codes "frame") v))) (document_seen d) after_format (λ frame frame_read after_frame.
+    option_and_then_some _ (option_and_then shape_of (get (codes "robot") v)) (document_seen d) after_frame (λ robot robot_read after_robot.
+    option_and_then_some _ (option_and_then obstacles_of (get (codes "obstacles") v)) (document_seen d) after_robot (λ obstacles obstacles_read after_obstacles.
+    option_and_then_some _ (option_and_then query_from (option_and_then elements (get (codes "query") v))) (document_seen d) after_obstacles (λ query query_read after_query.
+    option_and_then_some _ (option_and_then path_of (get (codes "certificate") v)) (document_seen d) after_query (λ path path_read same.
+    let is : (record { scene = record { frame = frame; robot = robot; obstacles = obstacles }; start = query.0; goal = query.1; path = path }) ≡ document_seen d = same_Some _ _ same in
     let good = option_and_then_some obstacles_of (get (codes "obstacles") v) obstacles obstacles_read (λ w _ w_read. obstacles_kept w d.obstacles.items (w_read ∙ ap (λ f. Some f.scene.obstacles) is)) in
     let ends = option_and_then_some query_from (option_and_then elements (get (codes "query") v)) query query_read (λ items _ items_read. query_kept items d.start d.goal (items_read ∙ ap (λ f. Some (f.start, f.goal)) is)) in
     record {

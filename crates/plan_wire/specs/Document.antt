@@ -7,7 +7,8 @@ use Rattle.serde_json.specs.Data.{Data, Items, no_items, item}
 use Rattle.serde_json.specs.Find.{get, as_number, as_i64, as_array}
 use Rattle.serde_json.specs.Read.{read}
 use Rattle.plan_spec.specs.Vector.{Vector, spot, turn}
-use Rattle.plan_spec.specs.Placement.{Frame, Obstacle, Scene}
+use Rattle.plan_spec.specs.Frame.{Frame}
+use Rattle.plan_spec.specs.Placement.{Obstacle, Scene}
 
 -- a scene, a query from start to goal, and the path that is offered for it
 pub record First : Type 0 where

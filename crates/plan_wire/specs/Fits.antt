@@ -1,7 +1,7 @@
 -- What every first document that is read keeps to.
 use Rattle.std.specs.Prelude.{◌≡◌, ◌≢◌, ℕ, ◌≤◌, pos, ◌<ℤ◌, List, [], ◌∷◌, length, All, unsigned_abs}
 use Rattle.plan_spec.specs.Vector.{turn}
-use Rattle.plan_grid.specs.Spot.{spot_vector, IsWithin}
+use Rattle.plan_grid.specs.Spot.{spot_seen, IsWithin}
 use Rattle.plan_grid.specs.declared.frame.Frame.{Frame}
 use Rattle.plan_grid.specs.declared.spot.Spot.{Spot}
 use Rattle.plan_wire.specs.declared.document.FirstDocument.{FirstDocument}
@@ -10,7 +10,7 @@ use Rattle.plan_wire.specs.declared.document.FirstDocument.{FirstDocument}
 pub record IsShape (spots : List Spot) : Type 0 where
   pub three : length spots ≡ 3
   pub bounded : All (IsWithin 1023) spots
-  pub turned : (a b c : Spot) → spots ≡ a ∷ b ∷ c ∷ [] → turn (spot_vector a) (spot_vector b) (spot_vector c) ≢ pos 0
+  pub turned : (a b c : Spot) → spots ≡ a ∷ b ∷ c ∷ [] → turn (spot_seen a) (spot_seen b) (spot_seen c) ≢ pos 0
 
 -- corners with coordinates of at most 1023 in absolute value, the lower left one strictly below and left of the other
 pub record IsFrame (f : Frame) : Type 0 where

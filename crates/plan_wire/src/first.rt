@@ -1,6 +1,6 @@
 ghost use Rattle.std.specs.Prelude.{◌≡◌, IfOk, IsErrOf, Some, None};
 ghost use Rattle.plan_wire.specs.Document.{first_of};
-ghost use Rattle.plan_wire.specs.First.{seen};
+ghost use Rattle.plan_wire.specs.First.{document_seen};
 ghost use Rattle.plan_wire.specs.Fits.{Fits};
 
 use crate::document::FirstDocument;
@@ -32,7 +32,7 @@ impl From<AllocError> for FirstReadFault {
 ///
 /// Members that the form does not name are passed over, and of a member that is repeated the last counts.
 pub fn read_first(alloc: Global, bytes: &[u8]) -> Result<FirstDocument, FirstReadFault>
-    ensures ok { IfOk result (λ d. first_of bytes.now ≡ Some (seen d)) }
+    ensures ok { IfOk result (λ d. first_of bytes.now ≡ Some (document_seen d)) }
     ensures fits { IfOk result Fits }
     ensures later { IsErrOf result FirstReadFault.Later → first_of bytes.now ≡ None }
 {

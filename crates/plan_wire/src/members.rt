@@ -2,10 +2,10 @@
 ghost use Rattle.std.specs.Prelude.{◌≡◌, IfOk, Some, pos, codes, map, option_map, option_and_then};
 ghost use Rattle.serde_json.specs.View.{view};
 ghost use Rattle.serde_json.specs.Find.{get};
-ghost use Rattle.plan_grid.specs.Spot.{spot_vector};
+ghost use Rattle.plan_grid.specs.Spot.{spot_seen};
 ghost use Rattle.plan_grid.specs.Frame as frame;
 ghost use Rattle.plan_wire.specs.Document as document;
-ghost use Rattle.plan_wire.specs.First.{obstacle_seen, seen};
+ghost use Rattle.plan_wire.specs.First.{obstacle_seen, document_seen};
 
 use crate::document::{FirstDocument, FirstShape};
 use crate::obstacles::obstacles_of;
@@ -22,14 +22,14 @@ fn format_of(v: &Value) -> Option<i64>
 }
 
 fn frame_of(v: &Value) -> Option<Frame>
-    ensures { option_map frame.frame_of result
+    ensures { option_map frame.frame_seen result
         ≡ option_and_then document.frame_from (option_and_then document.elements (get (codes "frame") (view v.now))) }
 {
     frame_from(elements(v.get("frame")?)?)
 }
 
 fn robot_of(v: &Value) -> Option<[Spot; 3]>
-    ensures { option_map (λ spots. map spot_vector spots) result
+    ensures { option_map (λ spots. map spot_seen spots) result
         ≡ option_and_then document.shape_of (get (codes "robot") (view v.now)) }
 {
     shape_of(v.get("robot")?)
@@ -46,7 +46,7 @@ fn shapes_of(alloc: Global, v: &Value) -> Result<Option<Vec<FirstShape>>, AllocE
 }
 
 fn query_of(v: &Value) -> Option<(Spot, Spot)>
-    ensures { option_map (λ q. (spot_vector q.0, spot_vector q.1)) result
+    ensures { option_map (λ q. (spot_seen q.0, spot_seen q.1)) result
         ≡ option_and_then document.query_from (option_and_then document.elements (get (codes "query") (view v.now))) }
 {
     query_from(elements(v.get("query")?)?)
@@ -54,7 +54,7 @@ fn query_of(v: &Value) -> Option<(Spot, Spot)>
 
 // What each element is read as, or none where one is not.
 fn each_point(alloc: Global, items: &[Value]) -> Result<Option<Vec<Spot>>, AllocError>
-    ensures { IfOk result (λ all. option_map (λ all. map spot_vector all.items) all
+    ensures { IfOk result (λ all. option_map (λ all. map spot_seen all.items) all
         ≡ document.each document.point_of (map view items.now)) }
 {
     let mut all = Vec::new(alloc);
@@ -70,7 +70,7 @@ fn each_point(alloc: Global, items: &[Value]) -> Result<Option<Vec<Spot>>, Alloc
 // The path of a certificate that has no chain.
 #[tactic(auto, unfolding(crate::specs::Document::path_of))]
 fn path_of(alloc: Global, v: &Value) -> Result<Option<Vec<Spot>>, AllocError>
-    ensures { IfOk result (λ path. option_map (λ path. map spot_vector path.items) path
+    ensures { IfOk result (λ path. option_map (λ path. map spot_seen path.items) path
         ≡ document.path_of (view v.now)) }
 {
     let Some(path) = v.get("path") else {
@@ -86,7 +86,7 @@ fn path_of(alloc: Global, v: &Value) -> Result<Option<Vec<Spot>>, AllocError>
 }
 
 fn certified_of(alloc: Global, v: &Value) -> Result<Option<Vec<Spot>>, AllocError>
-    ensures { IfOk result (λ path. option_map (λ path. map spot_vector path.items) path
+    ensures { IfOk result (λ path. option_map (λ path. map spot_seen path.items) path
         ≡ option_and_then document.path_of (get (codes "certificate") (view v.now))) }
 {
     match v.get("certificate") {
@@ -98,7 +98,7 @@ fn certified_of(alloc: Global, v: &Value) -> Result<Option<Vec<Spot>>, AllocErro
 // The document that a value is.
 #[tactic(auto, unfolding(crate::specs::Document::first_from))]
 pub(crate) fn first_from(alloc: Global, v: &Value) -> Result<Option<FirstDocument>, AllocError>
-    ensures { IfOk result (λ first. option_map seen first ≡ document.first_from (view v.now)) }
+    ensures { IfOk result (λ first. option_map document_seen first ≡ document.first_from (view v.now)) }
 {
     let Some(_) = format_of(v) else {
         return Ok(None);

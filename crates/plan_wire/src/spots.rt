@@ -1,7 +1,7 @@
 // Numbers, spots, shapes and frames, each as its definition reads it.
 ghost use Rattle.std.specs.Prelude.{◌≡◌, ◌≤ℤ◌, ℤ, [], ◌∷◌, map, IfSome, option_map, int_lt, ◌&&◌};
 ghost use Rattle.serde_json.specs.View.{view};
-ghost use Rattle.plan_grid.specs.Spot.{spot_vector};
+ghost use Rattle.plan_grid.specs.Spot.{spot_seen};
 ghost use Rattle.plan_grid.specs.Frame as frame;
 ghost use Rattle.plan_wire.specs.Document as document;
 
@@ -40,7 +40,7 @@ fn within(v: &Value, limit: u16) -> Option<i32>
 // The spot of two numbers.
 #[tactic(auto, unfolding(crate::specs::Document::spot_from))]
 fn spot_at(limit: u16, x: &Value, y: &Value) -> Option<Spot>
-    ensures { option_map spot_vector result ≡ document.spot_from limit (view x.now ∷ view y.now ∷ []) }
+    ensures { option_map spot_seen result ≡ document.spot_from limit (view x.now ∷ view y.now ∷ []) }
 {
     let x = within(x, limit)?;
     let y = within(y, limit)?;
@@ -50,7 +50,7 @@ fn spot_at(limit: u16, x: &Value, y: &Value) -> Option<Spot>
 // A spot of a shape.
 #[tactic(auto, unfolding(crate::specs::Document::spot_of), using(crate::proofs::Documents::spot_from_two, crate::proofs::Documents::spot_from_others))]
 fn spot_of(v: &Value) -> Option<Spot>
-    ensures { option_map spot_vector result ≡ document.spot_of (view v.now) }
+    ensures { option_map spot_seen result ≡ document.spot_of (view v.now) }
 {
     match elements(v)? {
         [x, y] => spot_at(1023, x, y),
@@ -61,7 +61,7 @@ fn spot_of(v: &Value) -> Option<Spot>
 // Three spots that are not in one line.
 #[tactic(auto, unfolding(crate::specs::Document::shape_of), using(crate::proofs::Documents::shape_from_others))]
 pub(crate) fn shape_of(v: &Value) -> Option<[Spot; 3]>
-    ensures { option_map (λ spots. map spot_vector spots) result ≡ document.shape_of (view v.now) }
+    ensures { option_map (λ spots. map spot_seen spots) result ≡ document.shape_of (view v.now) }
 {
     let [a, b, c] = elements(v)? else {
         return None;
@@ -85,7 +85,7 @@ fn is_below(a: Spot, b: Spot) -> bool
 // A frame, by x and y of its lower left corner and of its upper right one.
 #[tactic(auto, unfolding(crate::specs::Document::frame_from))]
 pub(crate) fn frame_from(items: &[Value]) -> Option<Frame>
-    ensures { option_map frame.frame_of result ≡ document.frame_from (map view items.now) }
+    ensures { option_map frame.frame_seen result ≡ document.frame_from (map view items.now) }
 {
     let [x1, y1, x2, y2] = items else {
         return None;
@@ -102,7 +102,7 @@ pub(crate) fn frame_from(items: &[Value]) -> Option<Frame>
 // A start and a goal, by their x and y.
 #[tactic(auto, unfolding(crate::specs::Document::query_from))]
 pub(crate) fn query_from(items: &[Value]) -> Option<(Spot, Spot)>
-    ensures { option_map (λ q. (spot_vector q.0, spot_vector q.1)) result ≡ document.query_from (map view items.now) }
+    ensures { option_map (λ q. (spot_seen q.0, spot_seen q.1)) result ≡ document.query_from (map view items.now) }
 {
     let [sx, sy, gx, gy] = items else {
         return None;
@@ -115,7 +115,7 @@ pub(crate) fn query_from(items: &[Value]) -> Option<(Spot, Spot)>
 // A point of a path: x, y and the weight 1.
 #[tactic(auto, unfolding(crate::specs::Document::point_from))]
 fn point_from(items: &[Value]) -> Option<Spot>
-    ensures { option_map spot_vector result ≡ document.point_from (map view items.now) }
+    ensures { option_map spot_seen result ≡ document.point_from (map view items.now) }
 {
     let [x, y, w] = items else {
         return None;
@@ -127,7 +127,7 @@ fn point_from(items: &[Value]) -> Option<Spot>
 
 #[tactic(auto, unfolding(crate::specs::Document::point_of))]
 pub(crate) fn point_of(v: &Value) -> Option<Spot>
-    ensures { option_map spot_vector result ≡ document.point_of (view v.now) }
+    ensures { option_map spot_seen result ≡ document.point_of (view v.now) }
 {
     point_from(elements(v)?)
 }

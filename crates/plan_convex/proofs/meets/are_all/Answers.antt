@@ -3,7 +3,7 @@ use Rattle.std.proofs.Common.{pos, below_more, refl, arith}
 use Rattle.std.proofs.lemmas.List.Elements.{All-from_get_or}
 use Rattle.plan_spec.specs.Vector.{turn}
 use Rattle.plan_grid.specs.Order.{IsSign}
-use Rattle.plan_grid.specs.Spot.{spot_vector}
+use Rattle.plan_grid.specs.Spot.{spot_seen}
 use Rattle.plan_convex.proofs.Least.{corner}
 use Rattle.plan_convex.proofs.Signs.{sign_differs, sign_same}
 use Rattle.plan_convex.proofs.meets.are_all.Goals as goal
@@ -13,11 +13,11 @@ returns-then-ne c = (λ e. absurd cc, λ all. absurd (sign_differs c.side_of.res
 
 pub loop-v-preserved : goal.loop-v-preserved
 loop-v-preserved c =
-    below_more (λ k. IsSign c.args.side (turn c.args.p.now c.args.q.now (spot_vector (corner c.args.spots.now k)))) c.loop-v.v-index c.loop-v.invariant
+    below_more (λ k. IsSign c.args.side (turn c.args.p.now c.args.q.now (spot_seen (corner c.args.spots.now k)))) c.loop-v.v-index c.loop-v.invariant
     (sign_same c.side_of.result c.args.side _ c.if-ne.ensures c.side_of.ensures)
 
 pub returns : goal.returns
 returns c = (
-  λ e. All-from_get_or (λ v. IsSign c.args.side (turn c.args.p.now c.args.q.now (spot_vector v))) c.args.spots.now (record { x = pos 0; y = pos 0 }) (λ k h. c.loop-v.invariant k (omega arith)),
+  λ e. All-from_get_or (λ v. IsSign c.args.side (turn c.args.p.now c.args.q.now (spot_seen v))) c.args.spots.now (record { x = pos 0; y = pos 0 }) (λ k h. c.loop-v.invariant k (omega arith)),
   λ all. refl,
 )

@@ -1,6 +1,6 @@
 -- The loop goes over the segments by number, and leaves at the first that touches.
 use Rattle.std.proofs.Common.{◌≡◌, ◌+◌, ◌-◌, min, length, below_more, refl, subst, arith}
-use Rattle.plan_grid.specs.Spot.{spot_segment}
+use Rattle.plan_grid.specs.Spot.{edge_seen}
 use Rattle.plan_top.specs.Legs.{LegTouches}
 use Rattle.plan_convex.proofs.Least.{corner}
 use Rattle.plan_top.proofs.Segments.{leg, all_legs, first_leg}
@@ -11,7 +11,7 @@ returns-then-touches c =
     let path = c.args.path.now in
     let P = LegTouches c.args.room c.args.sums.now in
     let next : c.min.result ≡ min (c.loop-k.k + 1) (length path - 1) = omega arith in
-    first_leg P path c.loop-k.k c.requires.some (omega arith) (subst (λ n. P (spot_segment (corner path c.loop-k.k) (corner path n))) next (c.if-touches.ensures.0 refl)) c.loop-k.invariant
+    first_leg P path c.loop-k.k c.requires.some (omega arith) (subst (λ n. P (edge_seen (corner path c.loop-k.k) (corner path n))) next (c.if-touches.ensures.0 refl)) c.loop-k.invariant
 
 pub loop-k-preserved : goal.loop-k-preserved
 loop-k-preserved c =
@@ -19,7 +19,7 @@ loop-k-preserved c =
     let P = LegTouches c.args.room c.args.sums.now in
     let next : c.min.result ≡ min (c.loop-k.k + 1) (length path - 1) = omega arith in
     below_more (λ j. ¬ (P (leg path j))) c.loop-k.k c.loop-k.invariant
-    (subst (λ n. ¬ (P (spot_segment (corner path c.loop-k.k) (corner path n)))) next (λ h. let e = c.if-touches.ensures.1 h in cc))
+    (subst (λ n. ¬ (P (edge_seen (corner path c.loop-k.k) (corner path n)))) next (λ h. let e = c.if-touches.ensures.1 h in cc))
 
 pub returns : goal.returns
 returns c =

@@ -3,7 +3,7 @@ use Rattle.std.proofs.Common.{◌≡◌, ◌⊎◌, inl, inr, ℤ, pos, ◌≤�
 use Rattle.plan_exact.proofs.Laws.{linear}
 use Rattle.plan_exact.proofs.Signs.{nonneg_or_neg}
 use Rattle.plan_spec.specs.Polygon.{Inside, OnOrLeft}
-use Rattle.plan_convex.specs.Convex.{vectors}
+use Rattle.plan_convex.specs.Convex.{spots_seen}
 use Rattle.plan_convex.proofs.Edges.{edge_at, inside_by_number, left_of_edge}
 use Rattle.plan_convex.proofs.convex.Convex.holds.Goals as goal
 
@@ -15,7 +15,7 @@ returns-then-is_negative c =
     let value = c.turn_at.ensures.value in (
       λ no. cc,
       λ inside.
-          let left = left_of_edge spots c.args.z.now c.loop-i.i c.loop-i-test.true (subst (λ l. Inside (vectors l) c.args.z.now) (sym same) inside) in
+          let left = left_of_edge spots c.args.z.now c.loop-i.i c.loop-i-test.true (subst (λ l. Inside (spots_seen l) c.args.z.now) (sym same) inside) in
           absurd (omega (arith, linear)),
     )
 
@@ -39,4 +39,4 @@ returns c =
     let same : spots ≡ c.args.self.now = c.as_slice-spots.ensures ∙ c.self.view_is in
     let past = c.loop-i-test.false in
     let all = inside_by_number spots z (λ k h. c.loop-i.invariant k (omega arith)) in
-    (λ yes. subst (λ l. Inside (vectors l) z) same all, λ inside. refl)
+    (λ yes. subst (λ l. Inside (spots_seen l) z) same all, λ inside. refl)

@@ -1,7 +1,7 @@
 -- A test that passes rules out a common point, and where none passes there is one.
 use Rattle.std.proofs.Common.{subst, refl}
-use Rattle.plan_spec.proofs.Meeting.{MeetsSegment}
-use Rattle.plan_convex.specs.Convex.{vectors}
+use Rattle.plan_plane.proofs.Polygon.Meeting.{MeetsSegment}
+use Rattle.plan_convex.specs.Convex.{spots_seen}
 use Rattle.plan_convex.proofs.Meeting.{is_point, right_of_edge, left_of_line, last_test}
 use Rattle.plan_convex.proofs.convex.Convex.meets.Goals as goal
 
@@ -11,7 +11,7 @@ returns-then-is_right_of_edge c =
     let q = c.args.q.now in
     let value = c.spots-spots.ensures.value in
     let apart = right_of_edge c.spots-spots.result.now p q (is_point p c.w.ensures.in_range) (is_point q c.w-2.ensures.in_range) (c.if-is_right_of_edge.ensures.0 refl) in
-    (λ e. absurd cc, λ m. absurd (subst (λ spots. ¬ (MeetsSegment (vectors spots) p q)) value apart m))
+    (λ e. absurd cc, λ m. absurd (subst (λ spots. ¬ (MeetsSegment (spots_seen spots) p q)) value apart m))
 
 pub returns-then-are_all : goal.returns-then-are_all
 returns-then-are_all c =

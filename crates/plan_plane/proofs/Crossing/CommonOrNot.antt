@@ -4,19 +4,17 @@ use Rattle.std.proofs.lemmas.Bool.{false≢true}
 use Rattle.plan_exact.specs.Sign.{Sign, is_negative, is_zero, is_positive, Order, is_less, is_equal, is_greater}
 use Rattle.plan_exact.specs.Vectors.{Vector, cross}
 use Rattle.plan_exact.proofs.Laws.{linear, mul_comm}
-use Rattle.plan_exact.proofs.Signs.{sign_of, order_of, mul_nonneg, mul_nonpos_nonneg, zero_of_mul, nonneg_of_pos, neg_nonneg}
+use Rattle.plan_exact.proofs.Signs.{sign_of, order_of, mul_nonneg, mul_nonpos_nonneg, zero_of_mul, nonneg_of_pos, neg_nonneg, weaken, le_or_ge, le_or_lt}
 use Rattle.plan_exact.proofs.Vectors.{det_swapped}
-use Rattle.plan_spec.specs.Vector.{IsPoint, Same, SameX, LeX, LtX, turn}
-use Rattle.plan_spec.specs.Segment.{Segment, On}
-use Rattle.plan_spec.specs.Chain.{same}
-use Rattle.plan_spec.specs.Parity.{segment, Common, HasPoints}
-use Rattle.plan_spec.proofs.Decided.{Decided, decided_by, on_decided}
-use Rattle.plan_spec.proofs.OnLine.{on_line}
-use Rattle.plan_spec.proofs.Order.{weaken, le_or_ge, leX_trans, leX_ltX, between_one}
-use Rattle.plan_spec.proofs.OnSegment.{between, on, between_x, between_first, pos_at, neg_at, flip, turn_flipped, le_or_lt}
-use Rattle.plan_spec.proofs.Position.{Same-swapped, on_same, same_true, same_from}
-use Rattle.plan_spec.proofs.TwoSegments.{Agree, crossing, two_ways}
-use Rattle.plan_spec.proofs.Ends.{on_flipped, common_flipped, common_first, common_last}
+use Rattle.plan_spec.specs.Vector.{IsPoint, Same, SameX, LeX, LtX, turn, same}
+use Rattle.plan_spec.specs.Segment.{Segment, On, segment, Common, HasPoints}
+use Rattle.plan_plane.proofs.Segment.Decided.{Decided, decided_by, on_decided}
+use Rattle.plan_plane.proofs.Segment.Line.{on_line}
+use Rattle.plan_plane.proofs.Segment.ByX.{leX_trans, leX_ltX, between_one}
+use Rattle.plan_plane.proofs.Segment.Between.{between, on, between_x, between_first, pos_at, neg_at, flip, turn_flipped}
+use Rattle.plan_plane.proofs.Segment.Same.{Same-swapped, on_same, same_true, same_from}
+use Rattle.plan_plane.proofs.Crossing.Sides.{Agree, crossing, two_ways}
+use Rattle.plan_plane.proofs.Segment.Reversed.{on_flipped, common_flipped, common_first, common_last}
 
 -- ---- the ends, and the segments, in the other order
 abbrev Answer : Vector → Vector → Vector → Vector → Type 0

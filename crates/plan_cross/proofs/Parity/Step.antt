@@ -5,16 +5,17 @@ use Rattle.std.specs.Prelude.{int_lt}
 use Rattle.plan_exact.specs.Sign.{Order, is_less, is_equal, is_greater}
 use Rattle.plan_exact.specs.Vectors.{Vector}
 use Rattle.plan_exact.proofs.Laws.{linear}
-use Rattle.plan_exact.proofs.Signs.{order_of}
+use Rattle.plan_exact.proofs.Signs.{order_of, weaken}
 use Rattle.plan_exact.proofs.Vectors.{det_swapped}
 use Rattle.plan_spec.specs.Vector.{IsPoint, LeX, LtX, turn}
-use Rattle.plan_spec.specs.Segment.{Segment, over_from, over, xor}
-use Rattle.plan_spec.specs.Parity.{segment, HasPoints, Common, counted}
-use Rattle.plan_spec.proofs.Ends.{common_flipped, common_last}
-use Rattle.plan_spec.proofs.Order.{weaken, leX_trans, ltX_leX, leX_ltX}
-use Rattle.plan_spec.proofs.Xor.{xor_false, xor_comm, or_comm, cancelled}
-use Rattle.plan_spec.proofs.TwoSegments.{Agree, same_side, facing}
-use Rattle.plan_spec.proofs.Tests.{lt_true, lt_false, over_right_of_a, over_past_both, over_before_both, counted_among, counted_before, counted_beyond}
+use Rattle.plan_spec.specs.Segment.{Segment, segment, HasPoints, Common}
+use Rattle.plan_spec.specs.Parity.{over_from, over, xor, counted}
+use Rattle.plan_plane.proofs.Segment.Reversed.{common_flipped, common_last}
+use Rattle.plan_plane.proofs.Segment.ByX.{leX_trans, ltX_leX, leX_ltX}
+use Rattle.plan_cross.proofs.Parity.Xor.{xor_false, xor_comm, or_comm, cancelled}
+use Rattle.plan_plane.proofs.Crossing.Sides.{Agree, same_side, facing}
+use Rattle.plan_exact.proofs.Tests.{lt_true, lt_false}
+use Rattle.plan_cross.proofs.Parity.Tests.{over_right_of_a, over_past_both, over_before_both, counted_among, counted_before, counted_beyond}
 
 -- ---- the three places of an end
 data Place (p q e : Vector) : Type 0 where

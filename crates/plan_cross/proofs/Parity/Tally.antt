@@ -3,11 +3,11 @@ use Rattle.std.proofs.Common.{◌≡◌, Bool, true, false, ◌&&◌, not, List,
 use Rattle.std.proofs.lemmas.Bool.{and_parts, not-true}
 use Rattle.std.proofs.lemmas.List.Elements.{All-head, All-tail}
 use Rattle.plan_exact.specs.Vectors.{Vector}
-use Rattle.plan_spec.specs.Vector.{IsPoint}
-use Rattle.plan_spec.specs.Segment.{xor}
-use Rattle.plan_spec.specs.Chain.{same}
-use Rattle.plan_spec.proofs.Xor.{xor_middle, and_xor}
-use Rattle.plan_spec.proofs.Position.{IsByPosition, same_true, same_from, same_comm, same_same}
+use Rattle.plan_spec.specs.Vector.{IsPoint, same}
+use Rattle.plan_spec.specs.Parity.{xor}
+use Rattle.plan_cross.proofs.Parity.Xor.{xor_middle, and_xor}
+use Rattle.plan_cross.proofs.Parity.Position.{IsByPosition, same_same}
+use Rattle.plan_plane.proofs.Segment.Same.{same_true, same_from, same_comm}
 
 -- whether an odd number of the points pass the test
 abbrev pub tally : (Vector → Bool) → List Vector → Bool

@@ -6,9 +6,8 @@ use Rattle.plan_exact.specs.Formal as F
 use Rattle.plan_exact.specs.Formal.{A}
 use Rattle.plan_exact.proofs.RingVectors.{ring_vectors}
 use Rattle.plan_exact.proofs.Signs.{signs}
-use Rattle.plan_spec.specs.Segment.{On}
-use Rattle.plan_spec.specs.Parity.{segment}
-use Rattle.plan_spec.proofs.OnSegment.{Between, on}
+use Rattle.plan_spec.specs.Segment.{On, segment}
+use Rattle.plan_plane.proofs.Segment.Between.{Between, on}
 
 pub on_combination : (j k : ℤ) (a b : Vector) → pos 0 ≤ℤ j → pos 0 ≤ℤ k → On (segment a b) (sum (scaled j a) (scaled k b))
 on_combination j k a b hj hk =

@@ -11,7 +11,7 @@ use Rattle.plan_exact.proofs.Vectors.{det_swapped}
 use Rattle.plan_spec.specs.Vector.{Vector, IsPoint, Same, turn}
 use Rattle.plan_spec.specs.Segment.{Segment}
 use Rattle.plan_spec.specs.Polygon.{OnOrLeft, Inside, EndOrLeft, edges}
-use Rattle.plan_spec.proofs.OnSegment.{Between, nonneg_at}
+use Rattle.plan_plane.proofs.Segment.Between.{Between, nonneg_at}
 
 turn_same : (a b v : Vector) → IsPoint v → Same v a → turn a b v ≡ pos 0
 turn_same a b v hv (ex, ey) =

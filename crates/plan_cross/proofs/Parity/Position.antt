@@ -1,23 +1,18 @@
 -- What is said of a point depends on its position alone, and not on its triple: two triples of one position are multiples of one another, by positive numbers.
-use Rattle.std.proofs.Common.{◌≡◌, ◌⊎◌, inl, inr, ℤ, pos, ◌-ℤ◌, ◌*ℤ◌, ◌≤ℤ◌, ◌<ℤ◌, Bool, true, ◌&&◌, ◌||◌, List, [], ◌∷◌, refl, sym, ap₂, ◌∙◌, arith}
-use Rattle.std.proofs.lemmas.Bool.{and_parts, and_from}
-use Rattle.std.proofs.lemmas.Bool.Decides.{same_from_decides, Decides-int_eq}
-use Rattle.std.specs.Prelude.{int_lt, int_le}
-use Rattle.plan_exact.specs.Expr.{var, con, ◌⊕◌, ◌⊖◌, ◌⊗◌}
+use Rattle.std.proofs.Common.{◌≡◌, ◌⊎◌, inl, inr, ℤ, pos, ◌-ℤ◌, ◌*ℤ◌, ◌≤ℤ◌, ◌<ℤ◌, Bool, ◌&&◌, ◌||◌, List, [], ◌∷◌, int_lt, int_le, refl, sym, ap₂, ◌∙◌, arith}
+use Rattle.std.proofs.lemmas.Bool.Decides.{same_from_decides}
+use Rattle.plan_exact.specs.Expr.{con, ◌⊖◌, ◌⊗◌}
 use Rattle.plan_exact.specs.Vectors.{Vector, env}
-use Rattle.plan_exact.specs.Formal as F
-use Rattle.plan_exact.specs.Formal.{A, B, C, D}
-use Rattle.plan_exact.proofs.Laws.{linear, zero_mul, mul_comm}
+use Rattle.plan_exact.specs.Formal.{A, B, C}
+use Rattle.plan_exact.proofs.Laws.{linear, zero_mul}
 use Rattle.plan_exact.proofs.Ring.{ring}
 use Rattle.plan_exact.proofs.Certificates.{eq_from}
-use Rattle.plan_exact.proofs.Signs.{signs, zeros, nonneg_of_pos, zero_of_mul, zero_of_mul_left, mul_le_mul, mul_lt_mul}
-use Rattle.plan_spec.specs.Vector.{IsPoint, LeX, Same, SameX, turn}
-use Rattle.plan_spec.specs.Segment.{Segment, On, over_from, over, parity, xor}
-use Rattle.plan_spec.specs.Chain.{same}
-use Rattle.plan_spec.specs.Parity.{segment, counted}
-use Rattle.plan_spec.proofs.Order.{leX_trans}
-use Rattle.plan_spec.proofs.OnSegment.{le_or_lt, flip}
-use Rattle.plan_spec.proofs.Tests.{le_true, le_false, lt_true, lt_false}
+use Rattle.plan_exact.proofs.Signs.{signs, zeros, nonneg_of_pos, mul_le_mul, mul_lt_mul, le_or_lt}
+use Rattle.plan_exact.proofs.Tests.{le_true, le_false, lt_true, lt_false}
+use Rattle.plan_spec.specs.Vector.{IsPoint, Same, turn, same}
+use Rattle.plan_spec.specs.Segment.{Segment}
+use Rattle.plan_spec.specs.Parity.{over_from, over, parity, xor, counted}
+use Rattle.plan_plane.proofs.Segment.Same.{turn_same, same_true, same_from, Same-swapped, Same-trans}
 
 -- ---- orders, times a positive number
 scaled_le : (x y k : ℤ) → pos 0 <ℤ k → int_le x y ≡ int_le (x *ℤ k) (y *ℤ k)
@@ -56,12 +51,7 @@ moved_x e z u h =
     }
 
 moved_turn : (a b z u : Vector) → Same z u → Proportion (turn a b z) (turn a b u) u.w z.w
-moved_turn a b z u h =
-    let f : z.x *ℤ u.w -ℤ u.x *ℤ z.w ≡ pos 0 = omega (arith, linear, h.0) in
-    let g : z.y *ℤ u.w -ℤ u.y *ℤ z.w ≡ pos 0 = omega (arith, linear, h.1) in
-    record {
-      equal = eq_from (env [] (a ∷ b ∷ z ∷ u ∷ [])) (con (pos 1)) ((F.cross A B).x ⊗ (C.x ⊗ D.w ⊖ D.x ⊗ C.w) ⊕ (F.cross A B).y ⊗ (C.y ⊗ D.w ⊖ D.y ⊗ C.w)) (F.det A B C ⊗ D.w) (F.det A B D ⊗ C.w) tt (search signs) (search zeros);
-    }
+moved_turn a b z u h = record { equal = turn_same a b z u h }
 
 fixed_zero : (z u : Vector) → Proportion (pos 0) (pos 0) u.w z.w
 fixed_zero z u = record { equal = zero_mul u.w ∙ sym (zero_mul z.w) }
@@ -81,27 +71,6 @@ pub parity_same : (chain : List Segment) (z u : Vector) → IsPoint z → IsPoin
 parity_same [] z u hz hu h = refl
 parity_same (s ∷ ss) z u hz hu h = ap₂ xor (over_same s z u hz hu h) (parity_same ss z u hz hu h)
 
--- ---- on
-carried : (a b z u : Vector) → IsPoint a → IsPoint b → IsPoint z → IsPoint u → SameX z u → (LeX a z × LeX z b) ⊎ (LeX b z × LeX z a) → (LeX a u × LeX u b) ⊎ (LeX b u × LeX u a)
-carried a b z u ha hb hz hu e w = by w
-  where
-    on : LeX z u
-    on = omega (arith, linear)
-
-    back : LeX u z
-    back = omega (arith, linear)
-
-    by : (LeX a z × LeX z b) ⊎ (LeX b z × LeX z a) → (LeX a u × LeX u b) ⊎ (LeX b u × LeX u a)
-    by (inl h) = inl (leX_trans a z u ha hz hu h.0 on, leX_trans u z b hu hz hb back h.1)
-    by (inr h) = inr (leX_trans b z u hb hz hu h.0 on, leX_trans u z a hu hz ha back h.1)
-
-pub on_same : (a b z u : Vector) → IsPoint a → IsPoint b → IsPoint z → IsPoint u → Same z u → On (segment a b) z → On (segment a b) u
-on_same a b z u ha hb hz hu e h = record {
-  in_line = zero_of_mul z.w (turn a b u) hz (mul_comm z.w (turn a b u) ∙ sym (moved_turn a b z u e).equal ∙ zero_of_mul_left (turn a b z) u.w h.in_line);
-  within_x = carried a b z u ha hb hz hu e.0 h.within_x;
-  within_y = carried (flip a) (flip b) (flip z) (flip u) ha hb hz hu e.1 h.within_y;
-}
-
 -- a test that answers the same at every triple of a position
 abbrev pub IsByPosition : (Vector → Bool) → Type 0
 IsByPosition f = (z u : Vector) → IsPoint z → IsPoint u → Same z u → f z ≡ f u
@@ -112,30 +81,6 @@ counted_same p q z u hz hu h =
     let left = same_le hu hz (moved_x q z u h) (fixed_x q z u) in
     let over = same_lt hu hz (fixed_zero z u) (moved_turn p q z u h) in
     ap₂ (λ s t. s && t) right (ap₂ (λ s t. s && t) left over)
-
--- ---- the test `same`
-pub same_true : (z u : Vector) → same z u ≡ true → Same z u
-same_true z u e =
-    let h = and_parts _ _ e in
-    ((Decides-int_eq (z.x *ℤ u.w) (u.x *ℤ z.w)).0 h.0, (Decides-int_eq (z.y *ℤ u.w) (u.y *ℤ z.w)).0 h.1)
-
-pub same_from : (z u : Vector) → Same z u → same z u ≡ true
-same_from z u h = and_from _ _ ((Decides-int_eq (z.x *ℤ u.w) (u.x *ℤ z.w)).1 h.0) ((Decides-int_eq (z.y *ℤ u.w) (u.y *ℤ z.w)).1 h.1)
-
-pub Same-swapped : (z u : Vector) → Same z u → Same u z
-Same-swapped z u h = (sym h.0, sym h.1)
-
-pub Same-trans : (z u v : Vector) → IsPoint u → Same z u → Same u v → Same z v
-Same-trans z u v hu h k = (through z.x z.w u.x u.w v.x v.w hu h.0 k.0, through z.y z.w u.y u.w v.y v.w hu h.1 k.1)
-  where
-    through : (x a y b t c : ℤ) → pos 0 <ℤ b → x *ℤ b ≡ y *ℤ a → y *ℤ c ≡ t *ℤ b → x *ℤ c ≡ t *ℤ a
-    through x a y b t c hb e f =
-        let g : x *ℤ b -ℤ y *ℤ a ≡ pos 0 = omega (arith, linear) in
-        let i : y *ℤ c -ℤ t *ℤ b ≡ pos 0 = omega (arith, linear) in
-        eq_from (x ∷ a ∷ y ∷ b ∷ t ∷ c ∷ []) (var 3) (var 5 ⊗ (var 0 ⊗ var 3 ⊖ var 2 ⊗ var 1) ⊕ var 1 ⊗ (var 2 ⊗ var 5 ⊖ var 4 ⊗ var 3)) (var 0 ⊗ var 5) (var 4 ⊗ var 1) tt hb (search zeros)
-
-pub same_comm : (z u : Vector) → same z u ≡ same u z
-same_comm z u = same_from_decides (same z u) (same u z) (same_true z u, same_from z u) ((λ e. Same-swapped u z (same_true u z e)), λ h. same_from u z (Same-swapped z u h))
 
 pub same_same : (e : Vector) → IsPoint e → IsByPosition (λ z. same z e)
 same_same e he z u hz hu h =

@@ -6,11 +6,9 @@ use Rattle.plan_exact.specs.Formal as F
 use Rattle.plan_exact.specs.Formal.{A, B, C, D, E}
 use Rattle.plan_exact.proofs.Laws.{linear}
 use Rattle.plan_exact.proofs.Certificates.{eq_from}
-use Rattle.plan_exact.proofs.Signs.{signs, zeros, mul_nonpos_nonneg, nonneg_of_mul, nonpos_of_mul}
+use Rattle.plan_exact.proofs.Signs.{signs, zeros, mul_nonpos_nonneg, nonneg_of_mul, nonpos_of_mul, le_or_ge}
 use Rattle.plan_spec.specs.Vector.{LeX, LtX, LeY, turn}
-use Rattle.plan_spec.specs.Segment.{On}
-use Rattle.plan_spec.specs.Parity.{segment}
-use Rattle.plan_spec.proofs.Order.{le_or_ge}
+use Rattle.plan_spec.specs.Segment.{On, segment}
 
 -- how far q is right of p, and above it, each times the two weights
 abbrev pub right : Vector → Vector → ℤ

@@ -1,23 +1,10 @@
 -- What the tests of `over` and `counted` answer, from the order of the numbers.
-use Rattle.std.proofs.Common.{◌≡◌, ℤ, pos, ◌≤ℤ◌, ◌<ℤ◌, Bool, true, false, ◌&&◌, ◌||◌, refl, arith}
-use Rattle.std.proofs.lemmas.Int.{ints}
-use Rattle.std.specs.Prelude.{int_lt, int_le}
+use Rattle.std.proofs.Common.{◌≡◌, pos, Bool, true, false, ◌&&◌, ◌||◌, int_lt, refl}
 use Rattle.plan_exact.specs.Vectors.{Vector}
+use Rattle.plan_exact.proofs.Tests.{le_true, le_false, lt_true, lt_false}
 use Rattle.plan_spec.specs.Vector.{LeX, LtX, turn}
-use Rattle.plan_spec.specs.Segment.{over}
-use Rattle.plan_spec.specs.Parity.{segment, counted}
-
-pub le_true : {x y : ℤ} → x ≤ℤ y → int_le x y ≡ true
-le_true h = grind (arith, ints)
-
-pub le_false : {x y : ℤ} → y <ℤ x → int_le x y ≡ false
-le_false h = grind (arith, ints)
-
-pub lt_true : {x y : ℤ} → x <ℤ y → int_lt x y ≡ true
-lt_true h = grind (arith, ints)
-
-pub lt_false : {x y : ℤ} → y ≤ℤ x → int_lt x y ≡ false
-lt_false h = grind (arith, ints)
+use Rattle.plan_spec.specs.Parity.{over, counted}
+use Rattle.plan_spec.specs.Segment.{segment}
 
 -- ---- over, by where z is among the ends
 or_false : (x : Bool) → (x || false) ≡ x

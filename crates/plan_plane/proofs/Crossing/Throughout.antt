@@ -8,13 +8,11 @@ use Rattle.plan_exact.proofs.Laws.{linear}
 use Rattle.plan_exact.proofs.Ring.{ring}
 use Rattle.plan_exact.proofs.RingVectors.{vector_path}
 use Rattle.plan_exact.proofs.Certificates.{eq_from}
-use Rattle.plan_exact.proofs.Signs.{signs, zeros}
+use Rattle.plan_exact.proofs.Signs.{signs, zeros, le_or_lt}
 use Rattle.plan_spec.specs.Vector.{IsPoint, SameX, LeY, LtY}
-use Rattle.plan_spec.specs.Segment.{Segment, On}
-use Rattle.plan_spec.specs.Parity.{HasPoints, Common}
-use Rattle.plan_spec.proofs.Convex.{convex}
-use Rattle.plan_spec.proofs.OnLine.{above, above_of}
-use Rattle.plan_spec.proofs.OnSegment.{le_or_lt}
+use Rattle.plan_spec.specs.Segment.{Segment, On, HasPoints, Common}
+use Rattle.plan_plane.proofs.Segment.Convexity.{convex}
+use Rattle.plan_plane.proofs.Segment.Line.{above, above_of}
 
 -- z and v on one segment, u and w on the other, u over z and w over v: weighed by the gap at the other x, both give one point
 balanced : (z u v w : Vector) → SameX z u → SameX v w → sum (scaled (above w v *ℤ u.w) z) (scaled (above z u *ℤ w.w) v) ≡ sum (scaled (above w v *ℤ z.w) u) (scaled (above z u *ℤ v.w) w)

@@ -8,12 +8,13 @@ use Rattle.plan_exact.specs.Formal.{A, B, C, J, K}
 use Rattle.plan_exact.proofs.Laws.{linear}
 use Rattle.plan_exact.proofs.Ring.{ring}
 use Rattle.plan_exact.proofs.RingVectors.{ring_vectors}
-use Rattle.plan_exact.proofs.Signs.{mul_pos, mul_one, mul_of_zero, mul_nonneg_nonpos, nonpos_of_mul, nonneg_of_pos, square_nonneg}
+use Rattle.plan_exact.proofs.Signs.{mul_pos, mul_one, mul_of_zero, mul_nonneg_nonpos, nonpos_of_mul, nonneg_of_pos, square_nonneg, le_or_lt}
 use Rattle.plan_spec.specs.Vector.{Vector, IsPoint, LeX, LtX, spot, turn, minus}
 use Rattle.plan_spec.specs.Segment.{On}
-use Rattle.plan_spec.specs.Placement.{Frame, Holds, Leaves, OnOrBeyond}
-use Rattle.plan_spec.proofs.OnSegment.{Between, between, on, between_first, between_second, LtX_before, LtX_after, flip, flipped as between_flipped, le_or_lt}
-use Rattle.plan_spec.proofs.InTriangle.{Among, flipped, nonneg_at, holds_among, among_holds}
+use Rattle.plan_spec.specs.Frame.{Frame, OnOrBeyond}
+use Rattle.plan_spec.specs.Placement.{Holds, Leaves}
+use Rattle.plan_plane.proofs.Segment.Between.{Between, between, on, between_first, between_second, LtX_before, LtX_after, flip, flipped as between_flipped}
+use Rattle.plan_plane.proofs.Polygon.Triangle.{Among, flipped, nonneg_at, holds_among, among_holds}
 
 abbrev pub IsSpot : Vector → Type 0
 IsSpot p = p.w ≡ pos 1

@@ -1,22 +1,10 @@
--- The order of integers is total, and that of points by x is transitive, as that of fractions.
-use Rattle.std.proofs.Common.{◌⊎◌, inl, inr, ℤ, ◌≤ℤ◌, ◌<ℤ◌, arith}
+-- The order of points by x is transitive, as that of fractions is.
+use Rattle.std.proofs.Common.{◌⊎◌, inl, inr, arith}
 use Rattle.plan_exact.specs.Vectors.{Vector}
 use Rattle.plan_exact.proofs.Laws.{linear}
 use Rattle.plan_exact.proofs.Fractions.{le_trans, lt_le_trans, le_lt_trans}
 use Rattle.plan_spec.specs.Vector.{IsPoint, LeX, LtX, SameX}
-use Rattle.plan_spec.proofs.OnSegment.{le_or_lt}
 
-pub weaken : {x y : ℤ} → x <ℤ y → x ≤ℤ y
-weaken h = omega (arith, linear)
-
-pub le_or_ge : (x y : ℤ) → (x ≤ℤ y) ⊎ (y ≤ℤ x)
-le_or_ge x y = by (le_or_lt x y)
-  where
-    by : (x ≤ℤ y) ⊎ (y <ℤ x) → (x ≤ℤ y) ⊎ (y ≤ℤ x)
-    by (inl h) = inl h
-    by (inr h) = inr (weaken h)
-
--- ---- points by x
 pub leX_trans : (a b c : Vector) → IsPoint a → IsPoint b → IsPoint c → LeX a b → LeX b c → LeX a c
 leX_trans a b c ha hb hc h k = le_trans a.x a.w b.x b.w c.x c.w ha hb hc h k
 

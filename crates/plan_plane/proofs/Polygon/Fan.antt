@@ -8,7 +8,7 @@ use Rattle.plan_exact.proofs.Vectors.{det_turned, det_swapped}
 use Rattle.plan_spec.specs.Vector.{Vector, IsPoint, Same, turn}
 use Rattle.plan_spec.specs.Segment.{Segment}
 use Rattle.plan_spec.specs.Polygon.{OnOrLeft, Inside, EndOrLeft, IsConvex, edges_to}
-use Rattle.plan_spec.proofs.InTriangle as T
+use Rattle.plan_plane.proofs.Polygon.Triangle as T
 
 -- a triangle of vertices that all have P, which holds z
 pub record Triangle (P : Vector → Type 0) (z : Vector) : Type 0 where

@@ -4,14 +4,14 @@ use Rattle.std.proofs.lemmas.Bool.{true≢false}
 use Rattle.std.proofs.lemmas.List.Elements.{All-head, All-tail, All-nil, All-cons, All-weaker}
 use Rattle.plan_exact.specs.Vectors.{Vector}
 use Rattle.plan_spec.specs.Vector.{IsPoint, Same}
-use Rattle.plan_spec.specs.Segment.{Segment, On, parity}
-use Rattle.plan_spec.specs.Chain.{IsClosed, IsProper, Blocks}
-use Rattle.plan_spec.specs.Parity.{segment, HasPoints, Common, Misses, Crosses}
+use Rattle.plan_spec.specs.Segment.{Segment, On, segment, HasPoints, Common, Misses}
+use Rattle.plan_spec.specs.Parity.{parity}
+use Rattle.plan_spec.specs.Chain.{IsClosed, IsProper, Blocks, Crosses}
 use Rattle.plan_spec.specs.Placement.{Scene}
 use Rattle.plan_spec.specs.Route.{segments, OnRoute, EndsAt, IsRoute, IsClearPolyline}
-use Rattle.plan_spec.proofs.CommonOrNot.{common_or_not}
-use Rattle.plan_spec.proofs.Position.{parity_same}
-use Rattle.plan_spec.proofs.ClosedChain.{parity_constant}
+use Rattle.plan_plane.proofs.Crossing.CommonOrNot.{common_or_not}
+use Rattle.plan_cross.proofs.Parity.Position.{parity_same}
+use Rattle.plan_cross.proofs.Parity.Closed.{parity_constant}
 
 any_here : {X : Type 0} (P : X → Type 0) (x : X) (xs : List X) → P x → Any P (x ∷ xs)
 any_here P x xs h = (0, x, omega arith, refl, h)

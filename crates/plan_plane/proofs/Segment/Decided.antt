@@ -3,10 +3,9 @@ use Rattle.std.proofs.Common.{◌≡◌, ◌⊎◌, inl, inr, ℤ, pos, ◌*ℤ�
 use Rattle.plan_exact.specs.Sign.{Order, is_less, is_equal, is_greater}
 use Rattle.plan_exact.specs.Vectors.{Vector}
 use Rattle.plan_exact.proofs.Laws.{linear}
-use Rattle.plan_exact.proofs.Signs.{order_of}
+use Rattle.plan_exact.proofs.Signs.{order_of, le_or_lt}
 use Rattle.plan_spec.specs.Vector.{turn}
 use Rattle.plan_spec.specs.Segment.{Segment, On}
-use Rattle.plan_spec.proofs.OnSegment.{le_or_lt}
 
 abbrev pub Decided : Type 0 → Type 0
 Decided P = P ⊎ (¬ P)

@@ -3,9 +3,9 @@ use Rattle.std.proofs.Common.{◌≡◌, inl, inr, ℕ, zero, suc, ◌+◌, ◌-
 use Rattle.plan_spec.specs.Vector.{Vector, IsPoint, Same}
 use Rattle.plan_spec.specs.Segment.{Segment, On}
 use Rattle.plan_spec.specs.Placement.{Scene, Touches}
-use Rattle.plan_spec.specs.Route.{segments, segments_from, OnRoute, StartsAt, EndsAt, IsClearPolyline}
-use Rattle.plan_spec.specs.Reply.{legs, SegmentTouches}
-use Rattle.plan_spec.proofs.OnSegment.{between_same, swapped, on}
+use Rattle.plan_spec.specs.Route.{segments, segments_from, OnRoute, StartsAt, EndsAt, IsClearPolyline, legs}
+use Rattle.plan_spec.specs.Reply.{SegmentTouches}
+use Rattle.plan_plane.proofs.Segment.Between.{between_same, swapped, on}
 
 -- ---- a point at an end of a segment is on it
 on_first : (a b z : Vector) → IsPoint a → IsPoint z → Same a z → On (record { a = a; b = b }) z

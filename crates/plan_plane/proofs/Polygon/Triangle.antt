@@ -15,7 +15,7 @@ use Rattle.plan_spec.specs.Vector.{Vector, IsPoint, turn}
 use Rattle.plan_spec.specs.Segment.{Segment}
 use Rattle.plan_spec.specs.Placement.{Holds}
 use Rattle.plan_spec.specs.Polygon.{Inside}
-use Rattle.plan_spec.proofs.OnSegment.{flip}
+use Rattle.plan_plane.proofs.Segment.Between.{flip}
 
 -- scale z is first a + second b + third c
 pub record Among (a b c z : Vector) : Type 0 where

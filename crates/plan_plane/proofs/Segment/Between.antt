@@ -15,15 +15,6 @@ use Rattle.plan_exact.proofs.Vectors.{dot_combination_right, dot_opposite, det_s
 use Rattle.plan_spec.specs.Vector.{Vector, IsPoint, LeX, LtX, LeY, LtY, SameX, Same, turn}
 use Rattle.plan_spec.specs.Segment.{On}
 
--- of two integers, the one is at most the other, or greater
-pub le_or_lt : (a b : ℤ) → (a ≤ℤ b) ⊎ (b <ℤ a)
-le_or_lt a b = by (order_of a b)
-  where
-    by : Order a b → (a ≤ℤ b) ⊎ (b <ℤ a)
-    by (is_less h) = inl (omega (arith, linear))
-    by (is_equal h) = inl (omega (arith, linear))
-    by (is_greater h) = inr h
-
 -- scale z is first p + second q
 pub record Between (p q z : Vector) : Type 0 where
   pub scale : ℤ
@@ -131,18 +122,6 @@ pub LtX_after : {p q z : Vector} → IsPoint z → Between p q z → (r : Vector
 LtX_after {p} {q} {z} hz b r h k =
     let f = pos_at hz b (right_of r) (omega (arith, linear, right_of_is r p)) (omega (arith, linear, right_of_is r q)) in
     omega (arith, linear, right_of_is r z)
-
-pub LeY_before : {p q z : Vector} → Between p q z → (r : Vector) → LeY p r → LeY q r → LeY z r
-LeY_before b r = LeX_before (flipped b) (flip r)
-
-pub LeY_after : {p q z : Vector} → Between p q z → (r : Vector) → LeY r p → LeY r q → LeY r z
-LeY_after b r = LeX_after (flipped b) (flip r)
-
-pub LtY_before : {p q z : Vector} → IsPoint z → Between p q z → (r : Vector) → LtY p r → LtY q r → LtY z r
-LtY_before hz b r = LtX_before hz (flipped b) (flip r)
-
-pub LtY_after : {p q z : Vector} → IsPoint z → Between p q z → (r : Vector) → LtY r p → LtY r q → LtY r z
-LtY_after hz b r = LtX_after hz (flipped b) (flip r)
 
 -- ---- in line and in the box, so between
 -- of three points in line, the one whose x is between those of the two others

@@ -1,6 +1,6 @@
 -- The laws of exclusive or: of its terms in any order, equal ones cancel.
 use Rattle.std.proofs.Common.{◌≡◌, Bool, true, false, ◌&&◌, ◌||◌, refl, sym, ap, ◌∙◌}
-use Rattle.plan_spec.specs.Segment.{xor}
+use Rattle.plan_spec.specs.Parity.{xor}
 
 pub xor_false : (x : Bool) → xor x false ≡ x
 xor_false true = refl

@@ -3,10 +3,10 @@ use Rattle.std.proofs.Common.{◌≡◌, ◌⊎◌, inl, inr, ℤ, pos, ◌*ℤ�
 use Rattle.plan_exact.specs.Sign.{Order, is_less, is_equal, is_greater}
 use Rattle.plan_exact.proofs.Fractions.{le_trans, lt_le_trans}
 use Rattle.plan_exact.proofs.Laws.{linear}
-use Rattle.plan_exact.proofs.Signs.{order_of}
+use Rattle.plan_exact.proofs.Signs.{order_of, le_or_lt}
 use Rattle.plan_exact.proofs.Vectors.{det_turned, det_swapped, det_swapped_right}
 use Rattle.plan_spec.specs.Vector.{Vector, IsPoint, LeX, LtX, SameX, turn}
-use Rattle.plan_spec.proofs.OnSegment.{Between, between_x, between_same, swapped, flip, flipped, turn_flipped, le_or_lt}
+use Rattle.plan_plane.proofs.Segment.Between.{Between, between_x, between_same, swapped, flip, flipped, turn_flipped}
 
 pub data Middle (p q y : Vector) : Type 0 where
   first : Between q y p → Middle p q y

@@ -8,16 +8,14 @@ use Rattle.plan_exact.specs.Formal.{A, B, C, D}
 use Rattle.plan_exact.proofs.Laws.{linear}
 use Rattle.plan_exact.proofs.RingVectors.{ring_vectors}
 use Rattle.plan_exact.proofs.Certificates.{le_from, lt_from}
-use Rattle.plan_exact.proofs.Signs.{signs, sign_of, zero_of_mul_left, pos_of_mul, neg_nonneg, nonneg_of_pos}
+use Rattle.plan_exact.proofs.Signs.{signs, sign_of, zero_of_mul_left, pos_of_mul, neg_nonneg, nonneg_of_pos, weaken}
 use Rattle.plan_exact.proofs.Vectors.{det_swapped}
 use Rattle.plan_spec.specs.Vector.{IsPoint, LeX, LtX, turn}
-use Rattle.plan_spec.specs.Segment.{On}
-use Rattle.plan_spec.specs.Parity.{segment, Common}
-use Rattle.plan_spec.proofs.Combination.{on_combination}
-use Rattle.plan_spec.proofs.Ends.{common_first, common_last}
-use Rattle.plan_spec.proofs.OnLine.{right, right_of}
-use Rattle.plan_spec.proofs.OnSegment.{on, between_x, between_first, between_second}
-use Rattle.plan_spec.proofs.Order.{weaken}
+use Rattle.plan_spec.specs.Segment.{On, segment, Common}
+use Rattle.plan_plane.proofs.Segment.Combination.{on_combination}
+use Rattle.plan_plane.proofs.Segment.Reversed.{common_first, common_last}
+use Rattle.plan_plane.proofs.Segment.Line.{right, right_of}
+use Rattle.plan_plane.proofs.Segment.Between.{on, between_x, between_first, between_second}
 
 -- ---- the common point, by formula
 pub two_ways : (a b p q : Vector) → sum (scaled (turn a b q) p) (scaled (neg_ℤ (turn a b p)) q) ≡ sum (scaled (neg_ℤ (turn p q b)) a) (scaled (turn p q a) b)

@@ -2,16 +2,16 @@
 use Rattle.std.proofs.Common.{◌≡◌, ◌⊎◌, inl, inr, ◌*ℤ◌, List, [], ◌∷◌, All, refl, sym, ap, ap₂, ◌∙◌}
 use Rattle.std.proofs.lemmas.List.Elements.{All-head, All-tail, All-cons, All-nil, All-weaker}
 use Rattle.plan_exact.specs.Vectors.{Vector}
-use Rattle.plan_spec.specs.Vector.{IsPoint, LeX}
-use Rattle.plan_spec.specs.Segment.{Segment, over, parity, xor}
-use Rattle.plan_spec.specs.Chain.{same, odd_end, IsClosed}
-use Rattle.plan_spec.specs.Parity.{segment, HasPoints, Common, Misses, counted}
-use Rattle.plan_spec.proofs.Ends.{common_first}
-use Rattle.plan_spec.proofs.Order.{le_or_ge}
-use Rattle.plan_spec.proofs.Xor.{xor_assoc, xor_middle, same_from_xor}
-use Rattle.plan_spec.proofs.Position.{counted_same}
-use Rattle.plan_spec.proofs.ParityStep.{parity_step}
-use Rattle.plan_spec.proofs.Tally.{tally, odd_in, even_tally}
+use Rattle.plan_spec.specs.Vector.{IsPoint, LeX, same}
+use Rattle.plan_spec.specs.Segment.{Segment, segment, HasPoints, Common, Misses}
+use Rattle.plan_spec.specs.Parity.{over, parity, xor, counted}
+use Rattle.plan_spec.specs.Chain.{odd_end, IsClosed}
+use Rattle.plan_plane.proofs.Segment.Reversed.{common_first}
+use Rattle.plan_exact.proofs.Signs.{le_or_ge}
+use Rattle.plan_cross.proofs.Parity.Xor.{xor_assoc, xor_middle, same_from_xor}
+use Rattle.plan_cross.proofs.Parity.Position.{counted_same}
+use Rattle.plan_cross.proofs.Parity.Step.{parity_step}
+use Rattle.plan_cross.proofs.Parity.Tally.{tally, odd_in, even_tally}
 
 -- the ends of the segments, in one list
 abbrev ends : List Segment → List Vector

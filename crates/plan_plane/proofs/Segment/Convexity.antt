@@ -7,9 +7,8 @@ use Rattle.plan_exact.specs.Formal.{A, B, J, K, L, M, N}
 use Rattle.plan_exact.proofs.RingVectors.{ring_vectors}
 use Rattle.plan_exact.proofs.Signs.{signs}
 use Rattle.plan_spec.specs.Vector.{IsPoint}
-use Rattle.plan_spec.specs.Segment.{On}
-use Rattle.plan_spec.specs.Parity.{segment}
-use Rattle.plan_spec.proofs.OnSegment.{Between, between, on}
+use Rattle.plan_spec.specs.Segment.{On, segment}
+use Rattle.plan_plane.proofs.Segment.Between.{Between, between, on}
 
 -- two combinations of a and b, combined
 combined_twice : (a b z u : Vector) (i j k f l m g n : ℤ) → scaled k z ≡ sum (scaled f a) (scaled l b) → scaled m u ≡ sum (scaled g a) (scaled n b) → scaled (k *ℤ m) (sum (scaled i z) (scaled j u)) ≡ sum (scaled ((i *ℤ m) *ℤ f +ℤ (j *ℤ k) *ℤ g) a) (scaled ((i *ℤ m) *ℤ l +ℤ (j *ℤ k) *ℤ n) b)

@@ -3,9 +3,8 @@ use Rattle.std.proofs.Common.{◌⊎◌, inl, inr, neg_ℤ, ap, ◌∙◌, arith
 use Rattle.plan_exact.specs.Vectors.{Vector}
 use Rattle.plan_exact.proofs.Laws.{linear}
 use Rattle.plan_exact.proofs.Vectors.{det_swapped}
-use Rattle.plan_spec.specs.Segment.{Segment, On}
-use Rattle.plan_spec.specs.Parity.{segment, Common}
-use Rattle.plan_spec.proofs.OnSegment.{flip, turn_flipped}
+use Rattle.plan_spec.specs.Segment.{Segment, On, segment, Common}
+use Rattle.plan_plane.proofs.Segment.Between.{flip, turn_flipped}
 
 swap : {P Q : Type 0} → P ⊎ Q → Q ⊎ P
 swap (inl p) = inr p

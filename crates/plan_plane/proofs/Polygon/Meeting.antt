@@ -9,15 +9,15 @@ use Rattle.plan_exact.specs.Formal.{A, B, C, D}
 use Rattle.plan_exact.proofs.Laws.{linear}
 use Rattle.plan_exact.proofs.Ring.{ring}
 use Rattle.plan_exact.proofs.RingVectors.{ring_vectors}
-use Rattle.plan_exact.proofs.Signs.{mul_nonneg, mul_pos, nonneg_or_neg, order_of, add_nonneg_pos, neg_pos, nonneg_of_pos}
+use Rattle.plan_exact.proofs.Signs.{mul_nonneg, mul_pos, nonneg_or_neg, order_of, add_nonneg_pos, neg_pos, nonneg_of_pos, le_or_lt}
 use Rattle.plan_exact.proofs.Vectors.{dot_opposite}
 use Rattle.plan_spec.specs.Vector.{Vector, IsPoint, turn}
 use Rattle.plan_spec.specs.Segment.{Segment, On}
 use Rattle.plan_spec.specs.Polygon.{OnOrLeft, Inside, IsConvex, edges}
-use Rattle.plan_spec.proofs.OnSegment.{Between, nonneg_at, neg_at, between_first, between_second, between, on, le_or_lt}
-use Rattle.plan_spec.proofs.Middle.{Middle, first, second, third, middle}
-use Rattle.plan_spec.proofs.Holding.{IsLeftOfEdges, vertices_inside, inside_between}
-use Rattle.plan_spec.proofs.Fan as N
+use Rattle.plan_plane.proofs.Segment.Between.{Between, nonneg_at, neg_at, between_first, between_second, between, on}
+use Rattle.plan_plane.proofs.Segment.Middle.{Middle, first, second, third, middle}
+use Rattle.plan_plane.proofs.Polygon.Holding.{IsLeftOfEdges, vertices_inside, inside_between}
+use Rattle.plan_plane.proofs.Polygon.Fan as N
 
 -- a rational point of the segment from p to q that the polygon holds
 abbrev pub MeetsSegment : List Vector → Vector → Vector → Type 0

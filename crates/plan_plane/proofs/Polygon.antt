@@ -1,0 +1,5 @@
+-- Triangles and convex polygons: what they hold, and which segments meet them.
+pub mod Triangle
+pub mod Fan
+pub mod Holding
+pub mod Meeting
