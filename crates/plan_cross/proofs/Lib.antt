@@ -2,4 +2,4 @@ mod Pairs
 mod EndOrder
 mod Found
 mod HalfOpen
-mod Parity
+mod ParityLaw

@@ -1,4 +1,4 @@
-use Rattle.plan_cross.proofs.Parity.Route.{no_clear_polyline}
+use Rattle.plan_cross.proofs.ParityLaw.Route.{no_clear_polyline}
 use Rattle.plan_cross.proofs.laws.blocked.Goals as goal
 
 pub returns : goal.returns

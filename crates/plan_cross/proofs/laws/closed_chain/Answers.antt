@@ -1,4 +1,4 @@
-use Rattle.plan_cross.proofs.Parity.Closed.{parity_constant}
+use Rattle.plan_cross.proofs.ParityLaw.Closed.{parity_constant}
 use Rattle.plan_cross.proofs.laws.closed_chain.Goals as goal
 
 pub returns : goal.returns

@@ -1,4 +1,4 @@
-use Rattle.plan_cross.proofs.Parity.Step.{parity_step}
+use Rattle.plan_cross.proofs.ParityLaw.Step.{parity_step}
 use Rattle.plan_cross.proofs.laws.one_segment.Goals as goal
 
 pub returns : goal.returns

@@ -1,4 +1,4 @@
-use Rattle.plan_cross.proofs.Parity.Route.{route_crosses}
+use Rattle.plan_cross.proofs.ParityLaw.Route.{route_crosses}
 use Rattle.plan_cross.proofs.laws.route.Goals as goal
 
 pub returns : goal.returns

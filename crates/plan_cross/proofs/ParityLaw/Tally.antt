@@ -5,8 +5,8 @@ use Rattle.std.proofs.lemmas.List.Elements.{All-head, All-tail}
 use Rattle.plan_exact.specs.Vectors.{Vector}
 use Rattle.plan_spec.specs.Vector.{IsPoint, same}
 use Rattle.plan_spec.specs.Parity.{xor}
-use Rattle.plan_cross.proofs.Parity.Xor.{xor_middle, and_xor}
-use Rattle.plan_cross.proofs.Parity.Position.{IsByPosition, same_same}
+use Rattle.plan_cross.proofs.ParityLaw.Xor.{xor_middle, and_xor}
+use Rattle.plan_cross.proofs.ParityLaw.Position.{IsByPosition, same_same}
 use Rattle.plan_plane.proofs.Segment.Same.{same_true, same_from, same_comm}
 
 -- whether an odd number of the points pass the test

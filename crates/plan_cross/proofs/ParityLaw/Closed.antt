@@ -8,10 +8,10 @@ use Rattle.plan_spec.specs.Parity.{over, parity, xor, counted}
 use Rattle.plan_spec.specs.Chain.{odd_end, IsClosed}
 use Rattle.plan_plane.proofs.Segment.Reversed.{common_first}
 use Rattle.plan_exact.proofs.Signs.{le_or_ge}
-use Rattle.plan_cross.proofs.Parity.Xor.{xor_assoc, xor_middle, same_from_xor}
-use Rattle.plan_cross.proofs.Parity.Position.{counted_same}
-use Rattle.plan_cross.proofs.Parity.Step.{parity_step}
-use Rattle.plan_cross.proofs.Parity.Tally.{tally, odd_in, even_tally}
+use Rattle.plan_cross.proofs.ParityLaw.Xor.{xor_assoc, xor_middle, same_from_xor}
+use Rattle.plan_cross.proofs.ParityLaw.Position.{counted_same}
+use Rattle.plan_cross.proofs.ParityLaw.Step.{parity_step}
+use Rattle.plan_cross.proofs.ParityLaw.Tally.{tally, odd_in, even_tally}
 
 -- the ends of the segments, in one list
 abbrev ends : List Segment → List Vector

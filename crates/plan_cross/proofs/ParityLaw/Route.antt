@@ -10,8 +10,8 @@ use Rattle.plan_spec.specs.Chain.{IsClosed, IsProper, Blocks, Crosses}
 use Rattle.plan_spec.specs.Placement.{Scene}
 use Rattle.plan_spec.specs.Route.{segments, OnRoute, EndsAt, IsRoute, IsClearPolyline}
 use Rattle.plan_plane.proofs.Crossing.CommonOrNot.{common_or_not}
-use Rattle.plan_cross.proofs.Parity.Position.{parity_same}
-use Rattle.plan_cross.proofs.Parity.Closed.{parity_constant}
+use Rattle.plan_cross.proofs.ParityLaw.Position.{parity_same}
+use Rattle.plan_cross.proofs.ParityLaw.Closed.{parity_constant}
 
 any_here : {X : Type 0} (P : X → Type 0) (x : X) (xs : List X) → P x → Any P (x ∷ xs)
 any_here P x xs h = (0, x, omega arith, refl, h)

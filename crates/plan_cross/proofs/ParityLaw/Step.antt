@@ -12,10 +12,10 @@ use Rattle.plan_spec.specs.Segment.{Segment, segment, HasPoints, Common}
 use Rattle.plan_spec.specs.Parity.{over_from, over, xor, counted}
 use Rattle.plan_plane.proofs.Segment.Reversed.{common_flipped, common_last}
 use Rattle.plan_plane.proofs.Segment.ByX.{leX_trans, ltX_leX, leX_ltX}
-use Rattle.plan_cross.proofs.Parity.Xor.{xor_false, xor_comm, or_comm, cancelled}
+use Rattle.plan_cross.proofs.ParityLaw.Xor.{xor_false, xor_comm, or_comm, cancelled}
 use Rattle.plan_plane.proofs.Crossing.Sides.{Agree, same_side, facing}
 use Rattle.plan_exact.proofs.Tests.{lt_true, lt_false}
-use Rattle.plan_cross.proofs.Parity.Tests.{over_right_of_a, over_past_both, over_before_both, counted_among, counted_before, counted_beyond}
+use Rattle.plan_cross.proofs.ParityLaw.Tests.{over_right_of_a, over_past_both, over_before_both, counted_among, counted_before, counted_beyond}
 
 -- ---- the three places of an end
 data Place (p q e : Vector) : Type 0 where
