@@ -2,6 +2,8 @@ pub mod Vector
 pub mod Segment
 pub mod Parity
 pub mod Polygon
+pub mod SimplePolygon
+pub mod Triangulation
 pub mod Frame
 pub mod Placement
 pub mod Route
