@@ -1,9 +1,17 @@
 -- What a read takes and a write adds, where the bytes are told, and when a count of faults has risen.
 use Rattle.std.specs.Prelude.{◌≡◌, ℕ, ◌+◌, ◌-◌, ◌^◌, ◌<◌, ◌≤◌, List, [], ◌++◌, length, take, drop, Option, Some, None, MatchOption, IfSome, option_map, min}
 
--- the count stands above what it was; at its type's end it stands still
+-- a count of faults after one more; at its type's end it stands still
+abbrev pub count_after : ℕ → ℕ
+count_after before = min (before + 1) (2 ^ 64 - 1)
+
+-- the count rose, by one fault at least
 abbrev pub Rose : ℕ → ℕ → Type 0
-Rose before now = min (before + 1) (2 ^ 64 - 1) ≤ now
+Rose before now = count_after before ≤ now
+
+-- the count rose by one fault
+abbrev pub RoseByOne : ℕ → ℕ → Type 0
+RoseByOne before now = now ≡ count_after before
 
 -- the first n of the bytes go into the room, and the others are left; none go into a room only where none are left
 pub record TakesBytes (bytes : List ℕ) (after : Option (List ℕ)) (room : List ℕ) (n : ℕ) : Type 0 where

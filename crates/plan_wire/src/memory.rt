@@ -1,5 +1,6 @@
-ghost use Rattle.std.specs.Prelude.{◌≡◌, ◌+◌, ◌-◌, ◌^◌, ◌⊎◌, ◌<◌, ◌≤◌, ◌↔◌, [], ◌++◌, length, take, Some, min, Contains, IfOk, OnErr, IsErr, IsTrue};
-ghost use Rattle.plan_wire.specs.Stream.{Rose, TakesNext};
+ghost use Rattle.std.specs.Prelude.{◌≡◌, ◌+◌, ◌-◌, ◌^◌, ◌⊎◌, ◌<◌, ◌≤◌, ◌↔◌, [], ◌++◌, length, take, Some, min, Contains, IfOk, OnOk, OnErr, IsErr, IsTrue};
+ghost use Rattle.std.proofs.Common.{rules};
+ghost use Rattle.plan_wire.specs.Stream.{RoseByOne, TakesNext};
 ghost use Rattle.plan_wire.specs.Memory.{Calls, Left, HeldInPieces};
 
 use crate::failed::Failed;
@@ -77,6 +78,10 @@ impl Source for MemorySource {
 
     ghost faults = { λ s. s.faults };
 
+    ghost rises = { RoseByOne };
+
+    ghost rises_at_least = { λ _ _ rose. Prim.search rules };
+
     fn read(&mut self, room: &mut [u8]) -> Result<usize, Failed>
         ensures count { self.old.faults ≤ self.new.faults }
         ensures within { IfOk result (λ n. n ≤ length room.new) }
@@ -85,7 +90,8 @@ impl Source for MemorySource {
         ensures fails { IsErr result ↔ Contains self.new.calls.fails self.new.calls.made }
         ensures made { self.new.calls.made ≡ min (self.old.calls.made + 1) (2 ^ 32 - 1) }
         ensures same { self.new.calls.fails ≡ self.old.calls.fails }
-        ensures rose { OnErr result (Rose self.old.faults self.new.faults) }
+        ensures still { OnOk result (self.new.faults ≡ self.old.faults) }
+        ensures rose { OnErr result (RoseByOne self.old.faults self.new.faults) }
         ensures kept { OnErr result (self.new.bytes ≡ self.old.bytes) }
     {
         if self.script.fails_next() {
@@ -148,6 +154,10 @@ impl Sink for MemorySink {
 
     ghost faults = { λ s. s.held.faults };
 
+    ghost rises = { RoseByOne };
+
+    ghost rises_at_least = { λ _ _ rose. Prim.search rules };
+
     fn write(&mut self, piece: &[u8]) -> Result<usize, Failed>
         ensures count { self.old.held.faults ≤ self.new.held.faults }
         ensures within { IfOk result (λ n. n ≤ length piece.now) }
@@ -159,7 +169,8 @@ impl Sink for MemorySink {
             ⊎ ((0 < length piece.now) × (length self.old.held.bytes ≡ self.old.held.room))) }
         ensures made { self.new.calls.made ≡ min (self.old.calls.made + 1) (2 ^ 32 - 1) }
         ensures same { self.new.calls.fails ≡ self.old.calls.fails }
-        ensures rose { OnErr result (Rose self.old.held.faults self.new.held.faults) }
+        ensures still { OnOk result (self.new.held.faults ≡ self.old.held.faults) }
+        ensures rose { OnErr result (RoseByOne self.old.held.faults self.new.held.faults) }
         ensures kept { OnErr result (self.new.held.bytes ≡ self.old.held.bytes) }
     {
         if self.script.fails_next() {

@@ -1,5 +1,5 @@
-ghost use Rattle.std.specs.Prelude.{◌≤◌, OnOk, OnErr};
-ghost use Rattle.plan_wire.specs.Stream.{Rose, Appends, AppendsPart};
+ghost use Rattle.std.specs.Prelude.{◌≡◌, ◌≤◌, OnOk, OnErr};
+ghost use Rattle.plan_wire.specs.Stream.{Appends, AppendsPart};
 
 use crate::failed::Failed;
 use crate::sink::Sink;
@@ -8,7 +8,8 @@ use crate::sink::Sink;
 pub fn put_line<K: Sink>(sink: &mut K, line: &[u8]) -> Result<(), Failed>
     ensures count { K.faults sink.old ≤ K.faults sink.new }
     ensures put { OnOk result (Appends (K.written sink.old) (K.written sink.new) line.now) }
-    ensures rose { OnErr result (Rose (K.faults sink.old) (K.faults sink.new)) }
+    ensures still { OnOk result (K.faults sink.new ≡ K.faults sink.old) }
+    ensures rose { OnErr result (K.rises (K.faults sink.old) (K.faults sink.new)) }
     ensures part { OnErr result (AppendsPart (K.written sink.old) (K.written sink.new) line.now) }
 {
     let mut done = 0;

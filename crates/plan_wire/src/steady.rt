@@ -1,6 +1,7 @@
-ghost use Rattle.std.specs.Prelude.{◌≡◌, ℕ, ◌+◌, ◌-◌, ◌<◌, ◌≤◌, List, [], ◌++◌, length, take, drop, Some, vec_len, min, IfOk, OnErr, IsErr, ◌↔◌};
+ghost use Rattle.std.specs.Prelude.{◌≡◌, ℕ, ◌+◌, ◌-◌, ◌<◌, ◌≤◌, List, [], ◌++◌, length, take, drop, Some, vec_len, min, IfOk, OnOk, OnErr, IsErr, ◌↔◌};
 ghost use Rattle.std.specs.Vec.{vec_capacity};
-ghost use Rattle.plan_wire.specs.Stream.{Rose};
+ghost use Rattle.std.proofs.Common.{rules};
+ghost use Rattle.plan_wire.specs.Stream.{RoseByOne};
 ghost use Rattle.plan_wire.specs.Memory.{Held};
 
 use crate::failed::Failed;
@@ -41,6 +42,10 @@ impl Source for SteadySource {
     ghost remaining = { λ s. Some s };
 
     ghost faults = { λ _. 0 };
+
+    ghost rises = { λ _ _. ⊥ };
+
+    ghost rises_at_least = { λ _ _ never. absurd never };
 
     fn read(&mut self, room: &mut [u8]) -> Result<usize, Failed> {
         let n = room.len().min(self.bytes.len() - self.taken);
@@ -90,7 +95,7 @@ impl SteadySink {
     // Counts a fault; at its type's end the count stands still.
     pub(crate) fn fail(&mut self) -> Failed
         ensures count { self.old.faults ≤ self.new.faults }
-        ensures rose { Rose self.old.faults self.new.faults }
+        ensures rose { RoseByOne self.old.faults self.new.faults }
         ensures bytes { self.new.bytes ≡ self.old.bytes }
         ensures room { self.new.room ≡ self.old.room }
     {
@@ -104,6 +109,10 @@ impl Sink for SteadySink {
 
     ghost faults = { λ s. s.faults };
 
+    ghost rises = { RoseByOne };
+
+    ghost rises_at_least = { λ _ _ rose. Prim.search rules };
+
     fn write(&mut self, piece: &[u8]) -> Result<usize, Failed>
         ensures count { self.old.faults ≤ self.new.faults }
         ensures within { IfOk result (λ n. n ≤ length piece.now) }
@@ -112,7 +121,8 @@ impl Sink for SteadySink {
         ensures taken { IfOk result (λ n. self.new.bytes ≡ self.old.bytes ++ take n piece.now) }
         ensures room { self.new.room ≡ self.old.room }
         ensures full { IsErr result ↔ ((0 < length piece.now) × (length self.old.bytes ≡ self.old.room)) }
-        ensures rose { OnErr result (Rose self.old.faults self.new.faults) }
+        ensures still { OnOk result (self.new.faults ≡ self.old.faults) }
+        ensures rose { OnErr result (RoseByOne self.old.faults self.new.faults) }
         ensures kept { OnErr result (self.new.bytes ≡ self.old.bytes) }
     {
         let free = self.room - self.bytes.len();

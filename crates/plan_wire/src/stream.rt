@@ -1,4 +1,6 @@
 ghost use Rattle.std.specs.Prelude.{◌≡◌, None};
+ghost use Rattle.std.proofs.Common.{rules};
+ghost use Rattle.plan_wire.specs.Stream.{RoseByOne};
 
 use crate::failed::Failed;
 use crate::sink::Sink;
@@ -26,6 +28,10 @@ impl<I: io::Read> Source for StreamSource<I> {
     ghost remaining = { λ _. None };
 
     ghost faults = { λ s. s.faults };
+
+    ghost rises = { RoseByOne };
+
+    ghost rises_at_least = { λ _ _ rose. Prim.search rules };
 
     fn read(&mut self, room: &mut [u8]) -> Result<usize, Failed> {
         let n = self.input.read(room);
@@ -57,6 +63,10 @@ impl<O: io::Write> Sink for StreamSink<O> {
     ghost written = { λ _. None };
 
     ghost faults = { λ s. s.faults };
+
+    ghost rises = { RoseByOne };
+
+    ghost rises_at_least = { λ _ _ rose. Prim.search rules };
 
     fn write(&mut self, piece: &[u8]) -> Result<usize, Failed> {
         match self.output.write(piece) {

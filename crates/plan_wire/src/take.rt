@@ -1,5 +1,5 @@
-ghost use Rattle.std.specs.Prelude.{◌≡◌, ◌+◌, ◌<◌, ◌≤◌, [], length, Some, vec_len, IfOk, OnOk, IfSome, IsErrOf};
-ghost use Rattle.plan_wire.specs.Stream.{Rose, TakesAtMost};
+ghost use Rattle.std.specs.Prelude.{◌≡◌, ◌+◌, ◌<◌, ◌≤◌, ◌≢◌, [], length, Some, vec_len, Err, IfOk, OnOk, IfSome, IsErrOf};
+ghost use Rattle.plan_wire.specs.Stream.{TakesAtMost};
 ghost use Rattle.plan_wire.specs.Document.{most_bytes};
 
 use crate::failed::Failed;
@@ -50,7 +50,8 @@ pub fn take_all<S: Source>(alloc: Global, source: &mut S) -> Result<Vec<u8>, Tak
     ensures exact { IfOk result (λ bytes. IfSome (S.remaining source.old) (λ all. bytes.items ≡ all)) }
     ensures ended { OnOk result (IfSome (S.remaining source.old) (λ _. S.remaining source.new ≡ Some [])) }
     ensures long { IsErrOf result TakeFault.TooLong → IfSome (S.remaining source.old) (λ all. most_bytes < length all) }
-    ensures rose { IsErrOf result TakeFault.Failed → Rose (S.faults source.old) (S.faults source.new) }
+    ensures still { result ≢ Err TakeFault.Failed → S.faults source.new ≡ S.faults source.old }
+    ensures rose { IsErrOf result TakeFault.Failed → S.rises (S.faults source.old) (S.faults source.new) }
     ensures left { TakesAtMost (most_bytes + 1) (S.remaining source.old) (S.remaining source.new) }
 {
     let mut bytes = Vec::new(alloc);

@@ -1,12 +1,12 @@
--- The bytes so far are what was taken from the source, one more than the most at the end, and the count of faults has not fallen.
-use Rattle.std.proofs.Common.{◌≤◌, ◌-◌, vec_len}
+-- The bytes so far are what was taken from the source, one more than the most at the end, and the count of faults stands still.
+use Rattle.std.proofs.Common.{◌≡◌, ◌≤◌, ◌-◌, vec_len}
 use Rattle.plan_wire.specs.Stream.{Takes}
 use Rattle.plan_wire.proofs.take.take_all.Given as goal
 
 abbrev pub invariant-loop-room : goal.invariant-loop-room
 invariant-loop-room g l = record {
   within : vec_len l.bytes ≤ 4194305;
-  count : g.S.Source.faults l.fn.source ≤ g.S.Source.faults l.source;
+  count : g.S.Source.faults l.source ≡ g.S.Source.faults l.fn.source;
   taken : Takes (g.S.Source.remaining l.fn.source) (g.S.Source.remaining l.source) l.bytes.items;
 }
 
