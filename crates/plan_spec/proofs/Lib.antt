@@ -1,2 +1,3 @@
 mod Rows
+mod Boundaries
 mod Polygons

@@ -9,3 +9,6 @@ pub mod Placement
 pub mod Route
 pub mod Reply
 pub mod Chain
+pub mod Weights
+pub mod Boundary
+pub mod Pieces
