@@ -1,3 +1,4 @@
+pub mod Near
 pub mod Segment
 pub mod Crossing
 pub mod Polygon
