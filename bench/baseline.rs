@@ -1,4 +1,4 @@
-//! The loops of planner.txt in plain Rust over i128, for comparison.
+//! The loops of planner.rattle in plain Rust over i128, for comparison.
 use std::cmp::Ordering;
 use std::time::Instant;
 
