@@ -1,0 +1,3 @@
+-- Lists in which each element is before all later ones, by an order that compares values and not elements.
+pub mod Lists
+pub mod ByCoordinate
