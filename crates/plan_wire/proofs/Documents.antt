@@ -31,7 +31,7 @@ one_more (Some b) None n h = tt
 one_more (Some b) (Some bs) n h = ap suc h
 
 -- each element is read to one
-each_length : {A B : Type 0} (f : A → Option B) (xs : List A) → IfSome (each f xs) (λ ys. length ys ≡ length xs)
+pub each_length : {A B : Type 0} (f : A → Option B) (xs : List A) → IfSome (each f xs) (λ ys. length ys ≡ length xs)
 each_length f [] = refl
 each_length f (x ∷ xs) = one_more (f x) (each f xs) (length xs) (each_length f xs)
 

@@ -1,32 +1,33 @@
 -- What is read keeps to its bounds: each definition tests what it gives, so a value that it gave has passed the test.
-use Rattle.std.proofs.Common.{◌≡◌, ◌≢◌, ◌≤◌, ℕ, ℤ, pos, negsuc, neg_ℤ, codes, int_le, int_lt, ◌<ℤ◌, unsigned_abs, Bool, true, false, ◌&&◌, not, List, [], ◌∷◌, length, map, All, Option, None, Some, option_and_then, cond, refl, sym, ap, ◌∙◌, arith, nat_le, is_none}
+use Rattle.std.proofs.Common.{◌≡◌, ◌≢◌, ◌≤◌, ◌<◌, ℕ, suc, ℤ, pos, negsuc, neg_ℤ, codes, int_le, int_lt, ◌<ℤ◌, unsigned_abs, Bool, true, false, ◌&&◌, not, List, [], ◌∷◌, length, map, All, Option, None, Some, IfSome, option_and_then, cond, refl, sym, ap, subst, ◌∙◌, arith, nat_le, is_none}
 use Rattle.std.specs.Ordering.{int_eq}
+use Rattle.std.specs.Str.{is_utf8}
 use Rattle.std.proofs.lemmas.Bool.Decides.{Decides-int_eq}
-use Rattle.std.proofs.lemmas.Bool.{leb-true}
+use Rattle.std.proofs.lemmas.Bool.{leb-true, and_parts}
 use Rattle.std.proofs.lemmas.Int.{ints}
 use Rattle.std.proofs.lemmas.List.{length-map}
 use Rattle.std.proofs.lemmas.List.Elements.{All-nil, All-cons}
 use Rattle.std.proofs.lemmas.Option.{cond_some, same_Some, some_pair_parts, option_and_then_some}
 use Rattle.serde_json.specs.Data.{Data}
 use Rattle.serde_json.specs.Find.{as_i64, as_number, get}
+use Rattle.serde_json.specs.Read as json
 use Rattle.plan_spec.specs.Vector.{spot, turn}
 use Rattle.plan_grid.specs.Spot.{spot_seen, IsWithin}
 use Rattle.plan_grid.specs.Frame.{frame_seen}
 use Rattle.plan_grid.specs.declared.frame.Frame.{Frame}
 use Rattle.plan_grid.specs.declared.spot.Spot.{Spot}
-use Rattle.plan_wire.specs.Document.{whole, within, natural, spot_from, spot_of, is_triangle, shape_of, frame_from, query_from, point_from, point_of, obstacle_of, obstacles_of, differ, path_of, first_from, each, given, elements}
+use Rattle.plan_wire.specs.Document.{whole, within, natural, spot_from, spot_of, is_triangle, shape_of, frame_from, query_from, point_from, point_of, obstacle_of, obstacles_of, differ, path_of, first_from, first_of, most_bytes, each, given, elements}
+use Rattle.plan_wire.proofs.Documents.{each_length}
+use Rattle.plan_wire.proofs.Values.{values, values_of_text, member_has_fewer, elements_are_few}
 use Rattle.plan_wire.specs.First.{obstacle_seen, document_seen}
 use Rattle.plan_wire.specs.Fits.{IsShape, IsFrame, Fits}
 use Rattle.plan_wire.specs.declared.document.FirstDocument.{FirstDocument}
 use Rattle.plan_wire.specs.declared.document.FirstShape.{FirstShape}
 
-both_true : (a b : Bool) → (a && b) ≡ true → (a ≡ true) × (b ≡ true)
-both_true true b h = (refl, h)
-both_true false b h = cc
-
-cond_some_of : {A : Type 0} (b : Bool) (o : Option A) (a : A) → cond b o None ≡ Some a → o ≡ Some a
-cond_some_of true o a h = h
-cond_some_of false o a h = cc
+-- what comes under a test that is passed
+under : {A : Type 0} (test : Bool) (o : Option A) (a : A) → cond test o None ≡ Some a → (test ≡ true) × (o ≡ Some a)
+under true o a h = (refl, h)
+under false o a h = cc
 
 -- a test is passed by what it gives
 passed : {A : Type 0} (test : A → Bool) (o : Option A) (a : A) → option_and_then (given test) o ≡ Some a → (o ≡ Some a) × (test a ≡ true)
@@ -41,7 +42,7 @@ bounded limit z low high = grind (arith, ints)
 whole_bounded : (limit : ℕ) (v : Data) (z : ℤ) → within limit v ≡ Some z → unsigned_abs z ≤ limit
 unfolding within whole
 whole_bounded limit v z read =
-    let tests = both_true _ _ (passed (λ n. int_le (neg_ℤ (pos limit)) n && int_le n (pos limit)) (option_and_then as_i64 (as_number v)) z read).1 in
+    let tests = and_parts _ _ (passed (λ n. int_le (neg_ℤ (pos limit)) n && int_le n (pos limit)) (option_and_then as_i64 (as_number v)) z read).1 in
     bounded limit z tests.0 tests.1
 
 spot_bounded : (limit : ℕ) (v w : Data) (s : Spot) → spot_from limit (v ∷ w ∷ []) ≡ Some (spot_seen s) → IsWithin limit s
@@ -78,6 +79,11 @@ each_keeps P f seen keeps (v ∷ vs) (x ∷ xs) read =
     let others : each f vs ≡ Some (map seen xs) = cc in
     All-cons P x xs (keeps v x first) (each_keeps P f seen keeps vs xs others)))
 
+each_as_many : {X B : Type 0} (f : Data → Option B) (seen : X → B) (vs : List Data) (xs : List X) → each f vs ≡ Some (map seen xs) → length xs ≡ length vs
+each_as_many f seen vs xs read =
+    let same : IfSome (Some (map seen xs)) (λ ys. length ys ≡ length vs) = subst (λ o. IfSome o (λ ys. length ys ≡ length vs)) read (each_length f vs) in
+    simp length-map at same
+
 three_spots : (spots : List Spot) → is_triangle (map spot_seen spots) ≡ true → length spots ≡ 3
 three_spots (a ∷ b ∷ c ∷ []) test = refl
 three_spots [] test = cc
@@ -113,7 +119,7 @@ frame_of_four x1 y1 x2 y2 f read =
     option_and_then_some _ (spot_from 1023 (x1 ∷ y1 ∷ [])) (frame_seen f) read (λ low low_read rest.
     option_and_then_some _ (spot_from 1023 (x2 ∷ y2 ∷ [])) (frame_seen f) rest (λ high high_read test.
     let c = cond_some (int_lt low.x high.x && int_lt low.y high.y) _ (frame_seen f) test in
-    let tests = both_true (int_lt low.x high.x) (int_lt low.y high.y) c.0 in
+    let tests = and_parts (int_lt low.x high.x) (int_lt low.y high.y) c.0 in
     let is_low : low ≡ spot_seen f.low = ap (λ g. g.low) c.1 in
     let is_high : high ≡ spot_seen f.high = ap (λ g. g.high) c.1 in
     record {
@@ -182,7 +188,7 @@ obstacle_kept v o read =
     option_and_then_some _ (option_and_then shape_of (get (codes "shape") v)) (obstacle_seen o) rest (λ shape shape_read same.
     let is : (record { id = natural id; shape = shape }) ≡ obstacle_seen o = same_Some _ _ same in (
       option_and_then_some (whole (pos 1) (pos 65535)) (get (codes "id") v) id id_read (λ d _ d_read.
-          let tests = both_true _ _ (passed (λ n. int_le (pos 1) n && int_le n (pos 65535)) (option_and_then as_i64 (as_number d)) id d_read).1 in
+          let tests = and_parts _ _ (passed (λ n. int_le (pos 1) n && int_le n (pos 65535)) (option_and_then as_i64 (as_number d)) id d_read).1 in
           id_bounded id o.id tests.0 tests.1 (ap (λ p. p.id) is)),
       option_and_then_some shape_of (get (codes "shape") v) shape shape_read (λ d _ d_read. shape_kept d o.spots (d_read ∙ ap (λ p. Some p.shape) is)),
     )))
@@ -191,21 +197,24 @@ obstacles_kept : (v : Data) (os : List FirstShape) → obstacles_of v ≡ Some (
 unfolding obstacles_of
 obstacles_kept v os read =
     let p = passed (λ os. nat_le (length os) 64 && differ os) (option_and_then (each obstacle_of) (elements v)) (map obstacle_seen os) read in
-    let few = (both_true (nat_le (length (map obstacle_seen os)) 64) (differ (map obstacle_seen os)) p.1).0 in (
+    let few = (and_parts (nat_le (length (map obstacle_seen os)) 64) (differ (map obstacle_seen os)) p.1).0 in (
       leb-true (length os) 64 (rw length-map at few),
       option_and_then_some (each obstacle_of) (elements v) (map obstacle_seen os) p.0 (λ items _ rest. each_keeps IsGood obstacle_of obstacle_seen obstacle_kept items os rest),
     )
 
-path_kept : (v : Data) (path : List Spot) → path_of v ≡ Some (map spot_seen path) → All (IsWithin 2046) path
+path_kept : (v : Data) (path : List Spot) → path_of v ≡ Some (map spot_seen path) → All (IsWithin 2046) path × (length path < values v)
 unfolding path_of
 path_kept v path read =
-    option_and_then_some _ (get (codes "path") v) (map spot_seen path) read (λ items _ rest.
-    let listed = cond_some_of (is_none (get (codes "chain") v)) (option_and_then (each point_of) (elements items)) (map spot_seen path) rest in
-    option_and_then_some (each point_of) (elements items) (map spot_seen path) listed (λ vs _ vs_read. each_keeps (IsWithin 2046) point_of spot_seen point_kept vs path vs_read))
+    option_and_then_some _ (get (codes "path") v) (map spot_seen path) read (λ points found rest.
+    let listed = (under (is_none (get (codes "chain") v)) (option_and_then (each point_of) (elements points)) (map spot_seen path) rest).1 in
+    option_and_then_some (each point_of) (elements points) (map spot_seen path) listed (λ vs is_list vs_read. (
+      each_keeps (IsWithin 2046) point_of spot_seen point_kept vs path vs_read,
+      omega (arith, each_as_many point_of spot_seen vs path vs_read, elements_are_few points vs is_list, member_has_fewer (codes "path") v points found),
+    )))
 
-pub fits_where_read : (v : Data) (d : FirstDocument) → first_from v ≡ Some (document_seen d) → Fits d
+members_kept : (v : Data) (d : FirstDocument) → first_from v ≡ Some (document_seen d) → values v ≤ suc most_bytes → Fits d
 unfolding first_from IsGood
-fits_where_read v d read =
+members_kept v d read small =
     option_and_then_some _ (option_and_then (whole (pos 1) (pos 1)) (get (codes "format") v)) (document_seen d) read (λ _ _ after_format.
     option_and_then_some _ (option_and_then frame_from (option_and_then elements (get (codes "frame") v))) (document_seen d) after_format (λ frame frame_read after_frame.
     option_and_then_some _ (option_and_then shape_of (get (codes "robot") v)) (document_seen d) after_frame (λ robot robot_read after_robot.
@@ -215,6 +224,10 @@ fits_where_read v d read =
     let is : (record { scene = record { frame = frame; robot = robot; obstacles = obstacles }; start = query.0; goal = query.1; path = path }) ≡ document_seen d = same_Some _ _ same in
     let good = option_and_then_some obstacles_of (get (codes "obstacles") v) obstacles obstacles_read (λ w _ w_read. obstacles_kept w d.obstacles.items (w_read ∙ ap (λ f. Some f.scene.obstacles) is)) in
     let ends = option_and_then_some query_from (option_and_then elements (get (codes "query") v)) query query_read (λ items _ items_read. query_kept items d.start d.goal (items_read ∙ ap (λ f. Some (f.start, f.goal)) is)) in
+    let path : All (IsWithin 2046) d.path.items × (length d.path.items ≤ most_bytes) = option_and_then_some path_of (get (codes "certificate") v) path path_read (λ w found w_read.
+    let kept = path_kept w d.path.items (w_read ∙ ap (λ f. Some f.path) is) in
+    let few : length d.path.items ≤ most_bytes = omega (arith, kept.1, member_has_fewer (codes "certificate") v w found) in
+    (kept.0, few)) in
     record {
       frame = option_and_then_some frame_from (option_and_then elements (get (codes "frame") v)) frame frame_read (λ items _ items_read. frame_kept items d.frame (items_read ∙ ap (λ f. Some f.scene.frame) is));
       robot = option_and_then_some shape_of (get (codes "robot") v) robot robot_read (λ w _ w_read. shape_kept w d.robot (w_read ∙ ap (λ f. Some f.scene.robot) is));
@@ -223,5 +236,13 @@ fits_where_read v d read =
       shapes = λ k o within. (good.1 k o within).1;
       start = ends.0;
       goal = ends.1;
-      path = option_and_then_some path_of (get (codes "certificate") v) path path_read (λ w _ w_read. path_kept w d.path.items (w_read ∙ ap (λ f. Some f.path) is));
+      path = path.0;
+      length = path.1;
     }))))))
+
+pub fits_where_read : (bytes : List ℕ) (d : FirstDocument) → first_of bytes ≡ Some (document_seen d) → Fits d
+unfolding first_of
+fits_where_read bytes d found =
+    let text = under (nat_le (length bytes) most_bytes && is_utf8 bytes) (option_and_then first_from (json.read bytes)) (document_seen d) found in
+    let small : length bytes ≤ most_bytes = leb-true (length bytes) most_bytes (and_parts _ _ text.0).0 in
+    option_and_then_some first_from (json.read bytes) (document_seen d) text.1 (λ v read_as members. members_kept v d members (omega (arith, values_of_text bytes v read_as)))

@@ -3,3 +3,5 @@ pub mod Documents
 pub mod Lists
 pub mod Texts
 pub mod Fits
+pub mod Tokens
+pub mod Values

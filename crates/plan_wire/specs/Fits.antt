@@ -4,6 +4,7 @@ use Rattle.plan_spec.specs.Vector.{turn}
 use Rattle.plan_grid.specs.Spot.{spot_seen, IsWithin}
 use Rattle.plan_grid.specs.declared.frame.Frame.{Frame}
 use Rattle.plan_grid.specs.declared.spot.Spot.{Spot}
+use Rattle.plan_wire.specs.Document.{most_bytes}
 use Rattle.plan_wire.specs.declared.document.FirstDocument.{FirstDocument}
 
 -- three spots, with coordinates of at most 1023 in absolute value, that are not in one line
@@ -19,7 +20,7 @@ pub record IsFrame (f : Frame) : Type 0 where
   pub wide : f.low.x <ℤ f.high.x
   pub tall : f.low.y <ℤ f.high.y
 
--- at most 64 obstacles, with ids from 1 to 65,535, and points with coordinates of at most 2046 in absolute value
+-- at most 64 obstacles, with ids from 1 to 65,535, points with coordinates of at most 2046 in absolute value, and a path of no more points than a document has bytes
 pub record Fits (d : FirstDocument) : Type 0 where
   pub frame : IsFrame d.frame
   pub robot : IsShape d.robot
@@ -29,3 +30,4 @@ pub record Fits (d : FirstDocument) : Type 0 where
   pub start : IsWithin 2046 d.start
   pub goal : IsWithin 2046 d.goal
   pub path : All (IsWithin 2046) d.path.items
+  pub length : length d.path.items ≤ most_bytes

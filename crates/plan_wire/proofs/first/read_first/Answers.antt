@@ -24,4 +24,4 @@ returns-clause-later c = λ _.
     no_value _ _ (omega arith) c.in-Ok.ensures.cases (c.in-Err.ensures.err (search rules))
 
 pub returns-in-Some-clause-fits : goal.returns-in-Some-clause-fits
-returns-in-Some-clause-fits c = fits_where_read _ _ (sym (rw c.in-Some.is at c.in_ok-first-in-Ok-from_str.ensures))
+returns-in-Some-clause-fits c = fits_where_read _ _ (returns-in-Some-clause-ok c)
