@@ -2,4 +2,4 @@ mod Pairs
 mod EndOrder
 mod Found
 mod HalfOpen
-mod ParityLaw
+pub mod ParityLaw

@@ -1,4 +1,6 @@
 pub mod Lists
+pub mod Pairs
+pub mod Backwards
 pub mod Rising
 pub mod Near
 pub mod Line

@@ -8,7 +8,7 @@ use Rattle.plan_exact.specs.Formal.{A, B, C, J, K}
 use Rattle.plan_exact.proofs.Laws.{linear}
 use Rattle.plan_exact.proofs.Ring.{ring}
 use Rattle.plan_exact.proofs.RingVectors.{ring_vectors}
-use Rattle.plan_exact.proofs.Signs.{signs, mul_nonneg, mul_pos, nonneg_or_neg}
+use Rattle.plan_exact.proofs.Signs.{signs, zeros, mul_nonneg, mul_pos, nonneg_or_neg}
 use Rattle.plan_spec.specs.Vector.{IsPoint}
 use Rattle.plan_plane.proofs.Segment.Between.{Between}
 
@@ -80,3 +80,16 @@ near_pos z d l (inl h) = elim (nonneg_or_neg (dot l d)) [
 
 pub near_nonneg : (z d l : Vector) → pos 0 ≤ℤ dot l z → pos 0 ≤ℤ dot l d → Near z d (λ p. pos 0 ≤ℤ dot l p)
 near_nonneg z d l h k = record { least = pos 1; positive = omega (arith, linear); beyond = λ n b. let m : pos 0 ≤ℤ n = omega (arith, linear) in omega (arith, linear, step_value n z d l, mul_nonneg m h) }
+
+-- ---- one step
+-- where the covector is 0 at v, the step has its sign at p
+pub along_zero : (l v p : Vector) (n : ℤ) → dot l v ≡ pos 0 → dot l (step n v p) ≡ dot l p
+along_zero l v p n h =
+    let f : n *ℤ dot l v ≡ pos 0 = search zeros in
+    omega (arith, linear, step_value n v p l)
+
+pub nonneg_step : (l v p : Vector) (n : ℤ) → pos 0 ≤ℤ n → pos 0 ≤ℤ dot l v → pos 0 ≤ℤ dot l p → pos 0 ≤ℤ dot l (step n v p)
+nonneg_step l v p n k h i = omega (arith, linear, step_value n v p l, mul_nonneg k h)
+
+pub step_point : (v p : Vector) (n : ℤ) → IsPoint v → pos 0 ≤ℤ p.w → pos 0 <ℤ n → IsPoint (step n v p)
+step_point v p n hv hp k = omega (arith, linear, mul_pos k hv)

@@ -10,3 +10,10 @@ pub mod SameSign
 pub mod Line
 pub mod Middle
 pub mod Decided
+pub mod OneLine
+pub mod Part
+pub mod Whether
+pub mod Facing
+pub mod Apart
+pub mod Entry
+pub mod AtEnds

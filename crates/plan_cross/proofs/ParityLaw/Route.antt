@@ -1,5 +1,5 @@
 -- A route between two points of different parity crosses the closed chain: along each of its segments parity is constant, or a common point is found. So where the chain is held, no clear polyline leads past it.
-use Rattle.std.proofs.Common.{◌≡◌, suc, ◌⊎◌, inl, inr, true, false, List, [], ◌∷◌, All, Any, refl, sym, subst, ◌∙◌, arith}
+use Rattle.std.proofs.Common.{◌≡◌, ◌⊎◌, inl, inr, true, false, List, [], ◌∷◌, All, Any, sym, subst, ◌∙◌}
 use Rattle.std.proofs.lemmas.Bool.{true≢false}
 use Rattle.std.proofs.lemmas.List.Elements.{All-head, All-tail, All-nil, All-cons, All-weaker}
 use Rattle.plan_exact.specs.Vectors.{Vector}
@@ -9,18 +9,13 @@ use Rattle.plan_spec.specs.Parity.{parity}
 use Rattle.plan_spec.specs.Chain.{IsClosed, IsProper, Blocks, Crosses}
 use Rattle.plan_spec.specs.Placement.{Scene}
 use Rattle.plan_spec.specs.Route.{segments, OnRoute, EndsAt, IsRoute, IsClearPolyline}
+use Rattle.plan_plane.proofs.Lists.{any_here, any_there}
 use Rattle.plan_plane.proofs.Crossing.CommonOrNot.{common_or_not}
 use Rattle.plan_cross.proofs.ParityLaw.Position.{parity_same}
 use Rattle.plan_cross.proofs.ParityLaw.Closed.{parity_constant}
 
-any_here : {X : Type 0} (P : X → Type 0) (x : X) (xs : List X) → P x → Any P (x ∷ xs)
-any_here P x xs h = (0, x, omega arith, refl, h)
-
-any_there : {X : Type 0} (P : X → Type 0) (x : X) (xs : List X) → Any P xs → Any P (x ∷ xs)
-any_there P x xs m = (suc m.0, m.1, omega (arith, m.2), m.3, m.4)
-
 -- some segment of the chain has a point of the path, or none has
-any_or_none : (path : Segment) → HasPoints path → (chain : List Segment) → All HasPoints chain → Any (Common path) chain ⊎ Misses path chain
+pub any_or_none : (path : Segment) → HasPoints path → (chain : List Segment) → All HasPoints chain → Any (Common path) chain ⊎ Misses path chain
 any_or_none path hp [] h = inr (All-nil (λ s. ¬ (Common path s)))
 any_or_none path hp (s ∷ ss) h = by (common_or_not path s hp (All-head HasPoints s ss h)) (any_or_none path hp ss (All-tail HasPoints s ss h))
   where

@@ -55,7 +55,7 @@ Step p q a b = xor (over (segment a b) p) (over (segment a b) q) ≡ xor (counte
 joined : {x y u v x' y' u' v' : Bool} → x ≡ x' → y ≡ y' → u ≡ u' → v ≡ v' → xor x' y' ≡ xor u' v' → xor x y ≡ xor u v
 joined e f g h k = ap₂ xor e f ∙ k ∙ sym (ap₂ xor g h)
 
-over_reversed : (a b z : Vector) → over (segment a b) z ≡ over (segment b a) z
+pub over_reversed : (a b z : Vector) → over (segment a b) z ≡ over (segment b a) z
 over_reversed a b z = or_comm (over_from a b z) (over_from b a z)
 
 step_reversed : (p q a b : Vector) → Step p q b a → Step p q a b

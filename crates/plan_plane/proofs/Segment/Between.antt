@@ -12,7 +12,7 @@ use Rattle.plan_exact.proofs.Ring.{ring}
 use Rattle.plan_exact.proofs.RingVectors.{ring_vectors, vector_path}
 use Rattle.plan_exact.proofs.Signs.{mul_nonneg, mul_pos, nonneg_of_mul, pos_of_mul, order_of, nonneg_of_pos, signs}
 use Rattle.plan_exact.proofs.Vectors.{dot_combination_right, dot_opposite, det_swapped, cross_on_left, cross_on_right}
-use Rattle.plan_spec.specs.Vector.{Vector, IsPoint, LeX, LtX, LeY, LtY, SameX, Same, turn}
+use Rattle.plan_spec.specs.Vector.{Vector, IsPoint, LeX, LtX, SameX, Same, turn}
 use Rattle.plan_spec.specs.Segment.{On}
 
 -- scale z is first p + second q

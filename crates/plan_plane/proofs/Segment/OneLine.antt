@@ -1,0 +1,26 @@
+-- Two points of the line through v and x are in line with x, since a line through two points is one line.
+use Rattle.std.proofs.Common.{◌≡◌, ◌⊎◌, inl, inr, pos, ◌*ℤ◌, [], ◌∷◌, arith}
+use Rattle.plan_exact.specs.Expr.{con, ◌⊕◌, ◌⊗◌, neg}
+use Rattle.plan_exact.specs.Formal.{A, B, C, D}
+use Rattle.plan_exact.specs.Formal as F
+use Rattle.plan_exact.specs.Vectors.{Vector, env}
+use Rattle.plan_exact.proofs.Certificates.{eq_from}
+use Rattle.plan_exact.proofs.Laws.{linear}
+use Rattle.plan_exact.proofs.Signs.{signs, zeros, zero_or_zero}
+use Rattle.plan_spec.specs.Vector.{Same, turn}
+use Rattle.plan_plane.proofs.Segment.Line.{right, above, right_of, above_of}
+
+-- ---- two points of a line, and a third one of it
+pub in_line : (v x t z : Vector) → ¬ (Same v x) → turn v x t ≡ pos 0 → turn v x z ≡ pos 0 → turn x t z ≡ pos 0
+in_line v x t z apart ht hz = by (zero_or_zero (turn x t z) (right v x) hor) (zero_or_zero (turn x t z) (above v x) ver)
+  where
+    hor : turn x t z *ℤ right v x ≡ pos 0
+    hor = eq_from (env [] (v ∷ x ∷ t ∷ z ∷ [])) (con (pos 1)) (right_of B C ⊗ F.det A B D ⊕ neg (right_of B D) ⊗ F.det A B C) (F.det B C D ⊗ right_of A B) F.zero tt (search signs) (search zeros)
+
+    ver : turn x t z *ℤ above v x ≡ pos 0
+    ver = eq_from (env [] (v ∷ x ∷ t ∷ z ∷ [])) (con (pos 1)) (above_of B C ⊗ F.det A B D ⊕ neg (above_of B D) ⊗ F.det A B C) (F.det B C D ⊗ above_of A B) F.zero tt (search signs) (search zeros)
+
+    by : (turn x t z ≡ pos 0) ⊎ (right v x ≡ pos 0) → (turn x t z ≡ pos 0) ⊎ (above v x ≡ pos 0) → turn x t z ≡ pos 0
+    by (inl h) s = h
+    by r (inl h) = h
+    by (inr h) (inr k) = absurd (apart (omega (arith, linear), omega (arith, linear)))

@@ -1,0 +1,26 @@
+-- A point of a part of a segment is on the segment: put the one combination into the other.
+use Rattle.std.proofs.Common.{◌+ℤ◌, ◌*ℤ◌, [], ◌∷◌, ap, ◌∙◌, arith}
+use Rattle.plan_exact.specs.Expr.{◌⊕◌, ◌⊗◌}
+use Rattle.plan_exact.specs.Formal.{A, B, J, K, L, M}
+use Rattle.plan_exact.specs.Formal as F
+use Rattle.plan_exact.specs.Vectors.{Vector, sum, scaled, env}
+use Rattle.plan_exact.proofs.Laws.{linear}
+use Rattle.plan_exact.proofs.RingVectors.{ring_vectors}
+use Rattle.plan_exact.proofs.Signs.{mul_nonneg, mul_pos, nonneg_of_pos}
+use Rattle.plan_plane.proofs.Segment.Between.{Between}
+
+-- ---- a point of a segment's part is on the segment
+pub between_part : {a b z c : Vector} → Between a b z → Between a z c → Between a b c
+between_part {a} {b} {z} {c} m n =
+    let step1 = ring_vectors (env (m.scale ∷ n.scale ∷ []) (c ∷ [])) (F.scaled (J ⊗ K) A) (F.scaled J (F.scaled K A)) tt in
+    let step2 = ring_vectors (env (m.scale ∷ n.first ∷ n.second ∷ []) (a ∷ z ∷ [])) (F.scaled J (F.sum (F.scaled K A) (F.scaled L B))) (F.sum (F.scaled (J ⊗ K) A) (F.scaled L (F.scaled J B))) tt in
+    let step3 = ring_vectors (env ((m.scale *ℤ n.first) ∷ n.second ∷ m.first ∷ m.second ∷ []) (a ∷ b ∷ [])) (F.sum (F.scaled J A) (F.scaled K (F.sum (F.scaled L A) (F.scaled M B)))) (F.sum (F.scaled (J ⊕ K ⊗ L) A) (F.scaled (K ⊗ M) B)) tt in
+    record {
+      scale = m.scale *ℤ n.scale;
+      first = m.scale *ℤ n.first +ℤ n.second *ℤ m.first;
+      second = n.second *ℤ m.second;
+      scale_positive = mul_pos m.scale_positive n.scale_positive;
+      first_nonneg = omega (arith, linear, mul_nonneg (nonneg_of_pos m.scale_positive) n.first_nonneg, mul_nonneg n.second_nonneg m.first_nonneg);
+      second_nonneg = mul_nonneg n.second_nonneg m.second_nonneg;
+      is_sum = step1 ∙ ap (scaled m.scale) n.is_sum ∙ step2 ∙ ap (λ k. sum (scaled (m.scale *ℤ n.first) a) (scaled n.second k)) m.is_sum ∙ step3;
+    }

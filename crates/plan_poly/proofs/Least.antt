@@ -1,0 +1,5 @@
+-- The list of a polygon from its least vertex on.
+pub mod Best
+pub mod ByPlace
+pub mod Ready
+pub mod Kept

@@ -1,0 +1,4 @@
+pub mod EvenOdd
+pub mod Loop
+pub mod Least
+pub mod Meets

@@ -1,0 +1,2 @@
+-- Whether two segments have a common point, by tests.
+pub mod Shares

@@ -1,0 +1,4 @@
+-- The corner of a polygon at its least vertex.
+pub mod Corner
+pub mod Clean
+pub mod Beside

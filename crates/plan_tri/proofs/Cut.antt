@@ -1,0 +1,9 @@
+-- A cut from the least vertex to the farthest vertex in the ear.
+pub mod Outside
+pub mod Moved
+pub mod Halves
+pub mod Even
+pub mod Diagonal
+pub mod Cutting
+pub mod Fits
+pub mod Together

@@ -1,0 +1,3 @@
+-- An ear, and what it leaves.
+pub mod Ear
+pub mod RestTurns

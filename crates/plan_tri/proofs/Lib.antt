@@ -1,0 +1,4 @@
+pub mod Corner
+pub mod Ear
+pub mod Cut
+pub mod Region

@@ -1,0 +1,7 @@
+-- Triangles that make up a polygon.
+pub mod Triangulated
+pub mod Parts
+pub mod Third
+pub mod Farthest
+pub mod Steps
+pub mod Region

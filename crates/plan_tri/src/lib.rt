@@ -1,0 +1,2 @@
+//! The triangles of a simple polygon.
+#![tactic(auto)]
