@@ -1,28 +1,28 @@
--- The turn of two spots and a point, as the cross product of the ways from the first.
-use Rattle.std.proofs.Common.{◌≡◌, ℕ, ℤ, pos, ◌-ℤ◌, ◌*ℤ◌, [], ◌∷◌}
-use Rattle.plan_exact.specs.Expr.{var, con, ◌⊖◌, ◌⊗◌}
+-- On which side of a line a point lies, as the cross product of ways: the three forms that code computes.
+use Rattle.std.proofs.Common.{◌≡◌, ℤ, pos, ◌-ℤ◌, ◌*ℤ◌, [], ◌∷◌, ◌∙◌, sym}
+use Rattle.plan_exact.specs.Expr.{con, ◌⊖◌, ◌⊗◌}
 use Rattle.plan_exact.specs.Formal as F
 use Rattle.plan_exact.specs.Formal.{A, B, C}
 use Rattle.plan_exact.specs.Vectors.{env}
 use Rattle.plan_exact.proofs.Ring.{ring}
 use Rattle.plan_spec.specs.Vector.{Vector, spot, turn}
+use Rattle.plan_grid.specs.declared.spot.Spot.{Spot}
+use Rattle.plan_grid.specs.Spot.{spot_seen, way, cross}
+use Rattle.plan_grid.proofs.FormalSpots as S
+use Rattle.plan_grid.proofs.FormalSpots.{coordinates, places, P, Z}
 
-abbrev at : ℕ → ℕ → F.Vec
-at i j = record { x = var i; y = var j; w = con (pos 1) }
+-- how far z is to the left of the line through v in the direction d, times its weight
+abbrev pub beside : Spot → Spot → Vector → ℤ
+beside v d z = d.x *ℤ (z.y -ℤ v.y *ℤ z.w) -ℤ d.y *ℤ (z.x -ℤ v.x *ℤ z.w)
 
-pub turn_at_point : (ax ay bx by : ℤ) (z : Vector) → (bx -ℤ ax) *ℤ (z.y -ℤ ay *ℤ z.w) -ℤ (by -ℤ ay) *ℤ (z.x -ℤ ax *ℤ z.w) ≡ turn (spot ax ay) (spot bx by) z
-turn_at_point ax ay bx by z =
-    ring (ax ∷ ay ∷ bx ∷ by ∷ z.x ∷ z.y ∷ z.w ∷ [])
-    ((var 2 ⊖ var 0) ⊗ (var 5 ⊖ var 1 ⊗ var 6) ⊖ (var 3 ⊖ var 1) ⊗ (var 4 ⊖ var 0 ⊗ var 6))
-    (F.det (at 0 1) (at 2 3) (record { x = var 4; y = var 5; w = var 6 }))
-    tt
+pub turn_beside : (a b : Spot) (z : Vector) → beside a (way a b) z ≡ turn (spot_seen a) (spot_seen b) z
+turn_beside a b z = ring (places (a ∷ b ∷ []) z) (S.beside (P 0) (S.way (P 0) (P 1)) (Z 2)) (F.det (S.seen (P 0)) (S.seen (P 1)) (Z 2)) tt
 
-pub turn_of_spots : (ax ay bx by cx cy : ℤ) → (bx -ℤ ax) *ℤ (cy -ℤ ay) -ℤ (by -ℤ ay) *ℤ (cx -ℤ ax) ≡ turn (spot ax ay) (spot bx by) (spot cx cy)
-turn_of_spots ax ay bx by cx cy =
-    ring (ax ∷ ay ∷ bx ∷ by ∷ cx ∷ cy ∷ [])
-    ((var 2 ⊖ var 0) ⊗ (var 5 ⊖ var 1) ⊖ (var 3 ⊖ var 1) ⊗ (var 4 ⊖ var 0))
-    (F.det (at 0 1) (at 2 3) (at 4 5))
-    tt
+pub beside_spot : (v d s : Spot) → beside v d (spot_seen s) ≡ cross d (way v s)
+beside_spot v d s = ring (coordinates (v ∷ d ∷ s ∷ [])) (S.beside (P 0) (P 1) (S.seen (P 2))) (S.cross (P 1) (S.way (P 0) (P 2))) tt
+
+pub turn_cross : (a b c : Spot) → turn (spot_seen a) (spot_seen b) (spot_seen c) ≡ cross (way a b) (way a c)
+turn_cross a b c = sym (turn_beside a b (spot_seen c)) ∙ beside_spot a (way a b) c
 
 pub turn_of_points : (a b : Vector) (cx cy : ℤ) → (a.x -ℤ cx *ℤ a.w) *ℤ (b.y -ℤ cy *ℤ b.w) -ℤ (a.y -ℤ cy *ℤ a.w) *ℤ (b.x -ℤ cx *ℤ b.w) ≡ turn a b (spot cx cy)
 turn_of_points a b cx cy =

@@ -29,3 +29,7 @@ middle_value rn rd an ad bn bd s t l positive h k m =
     eq_by {xs = xs} {s = var 8} (record { positive = positive })
     (add_zero (add_zero (multiple (var 3 ⊗ var 5) (from_eq xs (var 0 ⊗ (con (pos 2) ⊗ var 8)) ((var 6 ⊕ var 7) ⊗ var 1) m)) (multiple (var 1 ⊗ var 5) (from_eq xs (var 6 ⊗ var 3) (var 2 ⊗ var 8) h))) (multiple (var 1 ⊗ var 3) (from_eq xs (var 7 ⊗ var 5) (var 4 ⊗ var 8) k)))
     (var 0 ⊗ (con (pos 2) ⊗ (var 3 ⊗ var 5))) ((var 2 ⊗ var 5 ⊕ var 4 ⊗ var 3) ⊗ var 1) tt
+
+-- a sum is in range over the sum of the denominators
+pub sum_bounded : (p a q b : ℤ) → pos 1 ≤ℤ a → pos 1 ≤ℤ b → unsigned_abs p ≤ 2046 * unsigned_abs a → unsigned_abs q ≤ 2046 * unsigned_abs b → unsigned_abs (p +ℤ q) ≤ 2046 * unsigned_abs (a +ℤ b)
+sum_bounded p a q b ha hb hp hq = omega (arith, ints)

@@ -4,6 +4,7 @@ use Rattle.std.specs.Int.{◌∣◌, int_max}
 use Rattle.std.specs.Ordering.{int_cmp, is_eq}
 use Rattle.std.specs.declared.cmp.Ordering.{Ordering}
 use Rattle.plan_exact.specs.Vectors.{Vector}
+use Rattle.plan_grid.specs.declared.bounds.TheConstants.{MOST_COORDINATE, MOST_DENOMINATOR}
 
 pub record Fraction : Type 0 where
   pub num : ℤ
@@ -28,8 +29,8 @@ fraction_eq p q = is_eq (fraction_cmp p q)
 -- a denominator from 1 to 2 ^ 52, at most 2046 in absolute value, in lowest terms
 pub record IsRatio (p : Fraction) : Type 0 where
   pub positive : pos 1 ≤ℤ p.den
-  pub den_bounded : unsigned_abs p.den ≤ 2 ^ 52
-  pub num_bounded : unsigned_abs p.num ≤ 2046 * unsigned_abs p.den
+  pub den_bounded : unsigned_abs p.den ≤ MOST_DENOMINATOR
+  pub num_bounded : unsigned_abs p.num ≤ MOST_COORDINATE * unsigned_abs p.den
   pub lowest : (d : ℕ) → d ∣ unsigned_abs p.num → d ∣ unsigned_abs p.den → d ≡ 1
 
 -- the sum of the numerators over the sum of the denominators

@@ -3,4 +3,7 @@ pub mod Fraction
 pub mod FractionOrder
 pub mod Frame
 pub mod Order
+pub mod PointOrder
+pub mod Segment
 pub mod Spot
+pub mod Triangle

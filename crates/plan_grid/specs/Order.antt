@@ -4,13 +4,13 @@ use Rattle.std.specs.Ordering.{MatchOrdering}
 use Rattle.std.specs.declared.cmp.Ordering.{Ordering}
 use Rattle.plan_spec.specs.Vector.{Vector, Before, Same}
 
--- a number to 0
-abbrev pub IsSign : Ordering → ℤ → Type 0
-IsSign o a = MatchOrdering o (a <ℤ pos 0) (a ≡ pos 0) (pos 0 <ℤ a)
-
 -- a to b
 abbrev pub IsOrder : Ordering → ℤ → ℤ → Type 0
 IsOrder o a b = MatchOrdering o (a <ℤ b) (a ≡ b) (b <ℤ a)
+
+-- a to 0
+abbrev pub IsSign : Ordering → ℤ → Type 0
+IsSign o a = IsOrder o a (pos 0)
 
 -- p to q: by x, then by y
 abbrev pub IsPointOrder : Ordering → Vector → Vector → Type 0

@@ -4,7 +4,7 @@ ghost use Rattle.plan_grid.specs.Order.{IsSign, IsOrder};
 use plan_exact::Whole;
 use std::cmp::Ordering;
 
-/// How `a` stands to 0.
+// How `a` stands to 0: Less where it is negative, Greater where it is positive.
 pub fn sign(a: Whole) -> Ordering
     ensures { IsSign result a }
 {
@@ -17,7 +17,7 @@ pub fn sign(a: Whole) -> Ordering
     }
 }
 
-/// How `a` stands to `b`.
+// How `a` stands to `b`.
 pub fn order(a: Whole, b: Whole) -> Ordering
     ensures { IsOrder result a b }
 {
@@ -30,7 +30,7 @@ pub fn order(a: Whole, b: Whole) -> Ordering
     }
 }
 
-/// How `a / p` stands to `b / q`, by the cross products.
+// How `a / p` stands to `b / q`, whose denominators are positive, by the cross products.
 pub fn fraction_order(a: i64, p: i64, b: i64, q: i64) -> Ordering
     ensures { IsOrder result (a *ℤ q) (b *ℤ p) }
 {

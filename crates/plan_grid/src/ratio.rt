@@ -2,18 +2,19 @@ ghost use Rattle.std.specs.Int.{◌∣◌};
 ghost use Rattle.std.specs.Prelude.{◌≡◌, ℕ, pos, ◌*ℤ◌, ◌≤ℤ◌, ◌<◌, ◌≤◌, ◌*◌, ◌^◌, unsigned_abs};
 ghost use Rattle.plan_grid.specs.Fraction.{SameValue, IsRatio, IsLcm, mediant_of, middle_of};
 
+use crate::bounds::{MOST_COORDINATE, MOST_DENOMINATOR};
 use crate::gcd::{divisor, lcm, quotient};
 use crate::order::fraction_order;
 use plan_exact::Whole;
 use std::cmp::Ordering;
 use std::marker::Model;
 
-/// A fraction in lowest terms, with a denominator from 1 to 2^52, and at most 2046 in absolute value. Ratios
-/// are ordered by value.
+/// A fraction in lowest terms, with a denominator from 1 to 2^52, and at most 2046 in absolute value. Ratios are
+/// ordered by value.
 #[derive(Clone, Copy, Debug)]
 pub struct Ratio {
-    num: i128,
-    den: i128,
+    num: i64,
+    den: i64,
 }
 
 impl Model for Ratio {
@@ -76,21 +77,16 @@ impl Ord for Ratio {
     ghost matches_eq = { λ _ _. refl };
 
     fn cmp(&self, other: &Ratio) -> Ordering {
-        fraction_order(
-            self.num as i64,
-            self.den as i64,
-            other.num as i64,
-            other.den as i64,
-        )
+        fraction_order(self.num, self.den, other.num, other.den)
     }
 }
 
 impl Ratio {
-    /// `num / den`, in lowest terms.
+    /// `num / den`, in lowest terms. `den` must be from 1 to 2^52, and `num` at most `2046 * den` in absolute value.
     pub fn new(num: i128, den: i128) -> Ratio
         requires positive { pos 1 ≤ℤ den }
-        requires den_bounded { unsigned_abs den ≤ 2 ^ 52 }
-        requires num_bounded { unsigned_abs num ≤ 2046 * unsigned_abs den }
+        requires den_bounded { unsigned_abs den ≤ MOST_DENOMINATOR }
+        requires num_bounded { unsigned_abs num ≤ MOST_COORDINATE * unsigned_abs den }
         ensures value { SameValue result (record { num = num; den = den }) }
         ensures in_range { IsRatio result }
     {
@@ -98,77 +94,70 @@ impl Ratio {
         let den = den as i64;
         let d = divisor(num, 0, den);
         Ratio {
-            num: i128::from(quotient(num, d)),
-            den: i128::from(quotient(den, d)),
+            num: quotient(num, d),
+            den: quotient(den, d),
         }
     }
 
+    /// The numerator: at most 2046 times the denominator in absolute value.
     pub fn num(&self) -> i128
         ensures value { result ≡ self.now.num }
         ensures in_range { IsRatio self.now }
     {
-        self.num
+        i128::from(self.num)
     }
 
+    /// The denominator: from 1 to 2^52.
     pub fn den(&self) -> i128
         ensures value { result ≡ self.now.den }
         ensures in_range { IsRatio self.now }
     {
-        self.den
+        i128::from(self.den)
     }
 
-    // The numerator, to compute with.
-    pub(crate) fn numerator(&self) -> Whole
+    pub(crate) fn whole_num(&self) -> Whole
         ensures value { result ≡ self.now.num }
         ensures in_range { IsRatio self.now }
     {
-        Whole::from(self.num as i64)
+        Whole::from(self.num)
+    }
+
+    pub(crate) fn whole_den(&self) -> Whole
+        ensures value { result ≡ self.now.den }
+        ensures in_range { IsRatio self.now }
+    {
+        Whole::from(self.den)
     }
 
     // The numerator over the denominator `l`, a multiple of the ratio's own.
     pub(crate) fn over(&self, l: u64) -> Whole
-        requires bounded { l ≤ 2 ^ 52 }
+        requires bounded { l ≤ MOST_DENOMINATOR }
         requires multiple { unsigned_abs self.now.den ∣ l }
         ensures value { result *ℤ self.now.den ≡ self.now.num *ℤ pos l }
-        ensures size { unsigned_abs result ≤ 2046 * l }
+        ensures size { unsigned_abs result ≤ MOST_COORDINATE * l }
         ensures in_range { IsRatio self.now }
     {
-        let factor = l / self.weight();
-        self.numerator().times(Whole::from(factor as i64))
-    }
-
-    // The denominator, as an unsigned number.
-    fn weight(&self) -> u64
-        ensures value { result ≡ unsigned_abs self.now.den }
-        ensures in_range { IsRatio self.now }
-    {
-        self.den as u64
-    }
-
-    // The denominator, to compute with.
-    pub(crate) fn denominator(&self) -> Whole
-        ensures value { result ≡ self.now.den }
-        ensures in_range { IsRatio self.now }
-    {
-        Whole::from(self.den as i64)
+        let factor = l / self.den.unsigned_abs();
+        self.whole_num().times(Whole::from(factor as i64))
     }
 }
 
-/// The fraction of the sums of the numerators and of the denominators, which lies between the two.
+/// The mediant: the fraction of the sums of the numerators and of the denominators, which lies between the two. Both
+/// denominators must be below 2^25.
 pub fn mediant(a: Ratio, b: Ratio) -> Ratio
     requires a_bounded { unsigned_abs a.den < 2 ^ 25 }
     requires b_bounded { unsigned_abs b.den < 2 ^ 25 }
     ensures value { SameValue result (mediant_of a b) }
     ensures in_range { IsRatio result }
 {
-    let num = a.numerator().plus(b.numerator());
-    let den = a.denominator().plus(b.denominator());
+    let num = a.whole_num().plus(b.whole_num());
+    let den = a.whole_den().plus(b.whole_den());
     Ratio::new(num.get(), den.get())
 }
 
-/// Half the sum.
+/// Half the sum. Twice the least common multiple of the denominators must be at most 2^52.
 pub fn middle(a: Ratio, b: Ratio) -> Ratio
-    requires { (l : ℕ) → IsLcm (unsigned_abs a.den) (unsigned_abs b.den) l → 2 * l ≤ 2 ^ 52 }
+    requires { (l : ℕ) → IsLcm (unsigned_abs a.den) (unsigned_abs b.den) l → 2 * l ≤ MOST_DENOMINATOR }
     ensures value { SameValue result (middle_of a b) }
     ensures in_range { IsRatio result }
 {
@@ -177,11 +166,11 @@ pub fn middle(a: Ratio, b: Ratio) -> Ratio
     Ratio::new(sum.get(), i128::from(2 * l))
 }
 
-/// The least common multiple of the denominators.
+// The least common multiple of the denominators.
 pub(crate) fn common_denominator(a: Ratio, b: Ratio) -> u64
     requires { (l : ℕ) → IsLcm (unsigned_abs a.den) (unsigned_abs b.den) l → l < 2 ^ 64 }
     ensures least { IsLcm (unsigned_abs a.den) (unsigned_abs b.den) result }
     ensures positive { 0 < result }
 {
-    lcm(a.weight(), b.weight())
+    lcm(a.den.unsigned_abs(), b.den.unsigned_abs())
 }

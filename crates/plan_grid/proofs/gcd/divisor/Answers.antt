@@ -1,3 +1,4 @@
+-- The greatest common divisor of two, and of it and the third, is that of the three.
 use Rattle.std.proofs.Common.{◌<◌, ◌^◌, unsigned_abs, w64, SFits, to_z-of_z, arith}
 use Rattle.std.proofs.lemmas.Int.{ints}
 use Rattle.plan_grid.proofs.Lowest.{divisor_of_gcds}

@@ -1,3 +1,4 @@
+-- A step of Euclid's algorithm keeps the greatest common divisor.
 use Rattle.std.proofs.Common.{arith}
 use Rattle.std.proofs.lemmas.Nat.Gcd.{IsGcd-from_zero, IsGcd-from_mod}
 use Rattle.plan_grid.proofs.gcd.gcd.Goals as goal

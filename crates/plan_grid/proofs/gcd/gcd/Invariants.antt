@@ -1,3 +1,4 @@
+-- The greatest common divisor of the pair at hand is that of the pair handed in.
 use Rattle.std.proofs.Common.{ℕ}
 use Rattle.std.specs.Int.{IsGcd}
 use Rattle.plan_grid.proofs.gcd.gcd.Given as goal

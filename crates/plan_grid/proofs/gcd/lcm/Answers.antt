@@ -1,3 +1,4 @@
+-- The product of both, divided by the greatest common divisor, is the least common multiple.
 use Rattle.std.proofs.Common.{rules, ◌<◌, ◌*◌, ◌/◌, arith}
 use Rattle.std.proofs.lemmas.Nat.Gcd.{mod-eq-zero_of_dvd}
 use Rattle.plan_grid.specs.Fraction.{IsLcm}

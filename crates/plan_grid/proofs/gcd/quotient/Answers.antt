@@ -1,3 +1,4 @@
+-- Division by a divisor leaves no rest.
 use Rattle.std.proofs.Common.{rules, pos, ◌<ℤ◌, w64, SFits, arith}
 use Rattle.std.proofs.lemmas.Int.{ints, quot_is, quot_fits}
 use Rattle.plan_grid.proofs.Divisors.{quotient_is_exact}

@@ -1,3 +1,4 @@
+-- Two points in lowest terms that are level in x and in y are equal.
 use Rattle.std.proofs.Common.{rules, w64, SFits, to_z-of_z}
 use Rattle.plan_grid.proofs.Unique.{equal_from_order}
 use Rattle.plan_grid.proofs.point.compare.Goals as goal

@@ -1,3 +1,4 @@
+-- The sum of both numerators over the common denominator, and twice that denominator, are the middle.
 use Rattle.std.proofs.Common.{rules, pos, ◌<ℤ◌, SFits, to_z-of_z, arith}
 use Rattle.std.proofs.lemmas.Int.{ints}
 use Rattle.std.specs.Int.{w128}

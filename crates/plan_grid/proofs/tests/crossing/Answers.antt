@@ -1,3 +1,4 @@
+-- The least common multiple is at most the product of two small denominators.
 use Rattle.std.proofs.Common.{◌<◌, ◌*◌, ◌≤◌, ◌^◌, unsigned_abs, arith}
 use Rattle.std.proofs.lemmas.Int.{ints}
 use Rattle.std.proofs.Math.Nat.{dvd-mul_left, dvd-mul_right}

@@ -1,3 +1,4 @@
+-- The tests that were passed are the conditions of `height`.
 use Rattle.std.proofs.Common.{rules, ◌≡◌, ℕ, ℤ, pos, ◌*ℤ◌, ◌≤ℤ◌, ◌<◌, ◌≤◌, ◌^◌, false, unsigned_abs, w32, SFits, to_z-of_z, arith}
 use Rattle.std.specs.Int.{w128}
 use Rattle.std.specs.Int.RustNames.{int_lt, int_le}

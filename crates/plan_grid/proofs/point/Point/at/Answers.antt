@@ -1,3 +1,4 @@
+-- Both coordinates over the common denominator are the numbers of the point.
 use Rattle.std.proofs.Common.{rules, ◌≡◌, pos, ◌<ℤ◌, w64, SFits, to_z, to_z-of_z, arith}
 use Rattle.std.proofs.lemmas.Int.{ints, to_z_pos, fits_signed_from_abs}
 use Rattle.std.specs.Int.{w128}

@@ -1,3 +1,4 @@
+-- Division by the greatest common divisor keeps the position and leaves no divisor.
 use Rattle.std.proofs.Common.{rules, w64, SFits, to_z-of_z}
 use Rattle.plan_grid.proofs.Lowest.{IsReduced, reduced_is_same, reduced_is_in_range}
 use Rattle.plan_grid.proofs.point.Point.lowest.Goals as goal

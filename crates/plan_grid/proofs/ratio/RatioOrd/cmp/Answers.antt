@@ -1,3 +1,4 @@
+-- The order of the cross products is the order by value, since the denominators are positive.
 use Rattle.std.proofs.Common.{rules, w64, SFits, to_z-of_z, arith}
 use Rattle.std.specs.Int.{w128}
 use Rattle.std.proofs.lemmas.Int.{fits_signed_from_abs}

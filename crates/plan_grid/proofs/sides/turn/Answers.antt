@@ -1,8 +1,8 @@
-use Rattle.std.proofs.Common.{SFits, to_z-of_z, w32, ◌∙◌, arith, rules}
-use Rattle.std.specs.Int.{w128}
+-- The cross product of the two ways that were computed is the turn.
+use Rattle.std.proofs.Common.{SFits, to_z-of_z, w32, ◌∙◌, sym, arith, rules}
 use Rattle.plan_exact.proofs.Sizes.{product_at_most}
-use Rattle.plan_grid.proofs.Turns.{turn_of_spots}
-use Rattle.plan_grid.proofs.line.side.Goals as goal
+use Rattle.plan_grid.proofs.Turns.{turn_cross}
+use Rattle.plan_grid.proofs.sides.turn.Goals as goal
 
 pub crossed-requires : goal.crossed-requires
 crossed-requires c =
@@ -10,7 +10,6 @@ crossed-requires c =
 
 pub returns : goal.returns
 returns c =
-    let fits : SFits w128 c.get.result = search rules in
     let ax : SFits w32 c.args.a.x = search rules in
     let ay : SFits w32 c.args.a.y = search rules in
     let bx : SFits w32 c.args.b.x = search rules in
@@ -21,4 +20,4 @@ returns c =
     let b_y = simp to_z-of_z at c.step-by.ensures.value in
     let c_x = simp to_z-of_z at c.step-cx.ensures.value in
     let c_y = simp to_z-of_z at c.step-cy.ensures.value in
-    to_z-of_z fits ∙ c.get.ensures ∙ c.crossed.ensures.value ∙ rw (b_x, b_y, c_x, c_y) (turn_of_spots c.args.a.x c.args.a.y c.args.b.x c.args.b.y c.args.c.x c.args.c.y)
+    c.crossed.ensures ∙ rw (b_x, b_y, c_x, c_y) (sym (turn_cross c.args.a c.args.b c.args.c))

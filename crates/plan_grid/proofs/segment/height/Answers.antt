@@ -1,10 +1,11 @@
+-- The rise from left to right is shared in the proportion of the ways before and after x.
 use Rattle.std.proofs.Common.{rules, ◌≡◌, pos, ◌+ℤ◌, ◌-ℤ◌, ◌*ℤ◌, neg_ℤ, ◌≤ℤ◌, ◌<ℤ◌, ◌≤◌, ◌^◌, ◌∙◌, ap, unsigned_abs, w32, SFits, to_z-of_z, arith}
 use Rattle.std.specs.Int.{w128}
 use Rattle.plan_exact.proofs.Laws.{linear}
 use Rattle.plan_exact.proofs.Sizes.{product_at_most}
 use Rattle.plan_grid.proofs.Heights.{width_is_positive, mean_size, sum_size, value_is_height, point_is_on}
-use Rattle.plan_grid.proofs.line.height.Goals as goal
-use Rattle.plan_grid.proofs.line.height.Goals.{After-get-2, After-new}
+use Rattle.plan_grid.proofs.segment.height.Goals as goal
+use Rattle.plan_grid.proofs.segment.height.Goals.{After-get-2, After-new}
 
 past : (c : After-get-2) → c.way_to-past.result ≡ c.args.x.num -ℤ c.args.a.x *ℤ c.args.x.den
 past c =

@@ -1,5 +1,6 @@
+-- One of the two orders of the ends is tested after the other.
 use Rattle.std.proofs.Common.{rules, SFits, to_z-of_z, w32, w64, inl, inr}
-use Rattle.plan_grid.proofs.line.is_between.Goals as goal
+use Rattle.plan_grid.proofs.segment.is_between.Goals as goal
 
 pub returns-then-is_within : goal.returns-then-is_within
 returns-then-is_within c =

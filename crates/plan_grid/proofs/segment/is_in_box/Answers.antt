@@ -1,6 +1,7 @@
+-- A point is in the box where it is between the ends by x and by y.
 use Rattle.std.proofs.Common.{rules, ◌∙◌, SFits, to_z-of_z, w32, w64}
 use Rattle.plan_exact.proofs.Signs.{mul_one}
-use Rattle.plan_grid.proofs.line.is_in_box.Goals as goal
+use Rattle.plan_grid.proofs.segment.is_in_box.Goals as goal
 
 pub returns-then-is_between : goal.returns-then-is_between
 returns-then-is_between c =

@@ -1,7 +1,8 @@
+-- The cross product of the two ways that were computed, the second times the weight, is the turn.
 use Rattle.std.proofs.Common.{SFits, to_z-of_z, w32, w64, ◌∙◌, arith, rules}
 use Rattle.plan_exact.proofs.Sizes.{product_at_most}
-use Rattle.plan_grid.proofs.Turns.{turn_at_point}
-use Rattle.plan_grid.proofs.line.turn_at.Goals as goal
+use Rattle.plan_grid.proofs.Turns.{turn_beside}
+use Rattle.plan_grid.proofs.sides.turn_at.Goals as goal
 
 pub weighted_step-zx-requires : goal.weighted_step-zx-requires
 weighted_step-zx-requires c =
@@ -19,8 +20,8 @@ pub crossed-requires : goal.crossed-requires
 crossed-requires c =
     omega (arith, product_at_most _ _ _ _ c.step-bx.ensures.size c.weighted_step-zy.ensures.bound, product_at_most _ _ _ _ c.step-by.ensures.size c.weighted_step-zx.ensures.bound)
 
-pub returns-clause-value : goal.returns-clause-value
-returns-clause-value c =
+pub returns : goal.returns
+returns c =
     let fits : SFits w64 c.w.result = search rules in
     let ax : SFits w32 c.args.a.x = search rules in
     let ay : SFits w32 c.args.a.y = search rules in
@@ -33,9 +34,4 @@ returns-clause-value c =
     let b_y = simp to_z-of_z at c.step-by.ensures.value in
     let z_x = simp to_z-of_z at c.weighted_step-zx.ensures.value in
     let z_y = simp to_z-of_z at c.weighted_step-zy.ensures.value in
-    c.crossed.ensures.value ∙ rw (b_x, b_y, z_x, z_y, w, c.w.ensures.value, c.x.ensures.value, c.y.ensures.value) (turn_at_point c.args.a.x c.args.a.y c.args.b.x c.args.b.y c.args.z.now)
-
-pub returns-clause-size : goal.returns-clause-size
-returns-clause-size c =
-    let s = c.crossed.ensures.size in
-    omega (arith, product_at_most _ _ _ _ c.step-bx.ensures.size c.weighted_step-zy.ensures.bound, product_at_most _ _ _ _ c.step-by.ensures.size c.weighted_step-zx.ensures.bound)
+    c.crossed.ensures ∙ rw (b_x, b_y, z_x, z_y, w, c.w.ensures.value, c.x.ensures.value, c.y.ensures.value) (turn_beside c.args.a c.args.b c.args.z.now)
