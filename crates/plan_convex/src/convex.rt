@@ -1,10 +1,15 @@
-ghost use Rattle.std.specs.Prelude.{◌≡◌, ◌≤◌, ◌↔◌, length, All, IsTrue};
-ghost use Rattle.plan_spec.specs.Polygon.{IsConvex, Inside};
-ghost use Rattle.plan_convex.specs.Convex.{spots_seen, IsPolygon};
-ghost use Rattle.plan_grid.specs.Spot.{IsWithin};
+ghost use Rattle.std.specs.Prelude.{◌≡◌, pos, ◌<ℤ◌, ◌≤◌, ◌↔◌, length, All, Any, IsTrue};
+ghost use Rattle.plan_spec.specs.Vector.{Vector, IsPoint, turn};
+ghost use Rattle.plan_spec.specs.Segment.{On};
+ghost use Rattle.plan_spec.specs.Polygon.{IsConvex, Inside, edges};
+ghost use Rattle.plan_grid.specs.Order.{IsSign};
+ghost use Rattle.plan_grid.specs.Spot.{spot_seen, spots_seen, edge_seen, IsWithin};
+ghost use Rattle.plan_convex.specs.Convex.{IsPolygon};
+ghost use Rattle.plan_convex.specs.Meets.{AreRight};
 
 use crate::vertices::Vertices;
-use plan_grid::{Point, Spot, turn_at};
+use plan_grid::{Point, Spot, orientation_at, side_of};
+use std::cmp::Ordering;
 use std::marker::Model;
 
 /// A strictly convex polygon with three to six vertices, counterclockwise from the least one (by x, then by y), with
@@ -51,10 +56,68 @@ impl Convex {
     {
         let spots = self.vertices.as_slice();
         for i in 0..spots.len() {
-            if turn_at(spots[i], spots[(i + 1) % spots.len()], z).is_negative() {
+            if is_right(spots[i], spots[(i + 1) % spots.len()], z) {
                 return false;
             }
         }
         true
     }
+
+    /// Whether some rational point of the segment from `p` to `q` is in the polygon or on its boundary: no edge has
+    /// both ends strictly right of it, and the vertices are not all strictly on one side of the segment's line.
+    pub fn meets(&self, p: &Point, q: &Point) -> bool
+        ensures { IsTrue result
+            ↔ ((z : Vector) × IsPoint z × On (record { a = p.now; b = q.now }) z
+            × Inside (spots_seen self.now) z) }
+    {
+        prove!(p.w() > 0);
+        prove!(q.w() > 0);
+        let spots = self.spots();
+        if is_right_of_edge(spots, p, q) {
+            return false;
+        }
+        if are_all(Ordering::Greater, spots, p, q) {
+            return false;
+        }
+        !are_all(Ordering::Less, spots, p, q)
+    }
+}
+
+// Whether `z` is strictly right of the line from `a` to `b`.
+fn is_right(a: Spot, b: Spot, z: &Point) -> bool
+    ensures { IsTrue result ↔ (turn (spot_seen a) (spot_seen b) z.now <ℤ pos 0) }
+{
+    orientation_at(a, b, z).is_lt()
+}
+
+// Whether some edge has `p` and `q` both strictly right of it.
+fn is_right_of_edge(spots: &[Spot], p: &Point, q: &Point) -> bool
+    ensures { IsTrue result ↔ Any (AreRight p.now q.now) (edges (spots_seen spots.now)) }
+{
+    for i in 0..spots.len() {
+        if are_right(spots[i], spots[(i + 1) % spots.len()], p, q) {
+            return true;
+        }
+    }
+    false
+}
+
+// Whether `p` and `q` are both strictly right of the line from `a` to `b`.
+fn are_right(a: Spot, b: Spot, p: &Point, q: &Point) -> bool
+    ensures { IsTrue result ↔ AreRight p.now q.now (edge_seen a b) }
+{
+    is_right(a, b, p) && is_right(a, b, q)
+}
+
+// Whether all spots are on this side of the line from `p` to `q`.
+fn are_all(side: Ordering, spots: &[Spot], p: &Point, q: &Point) -> bool
+    requires { All (IsWithin 2046) spots.now }
+    ensures { IsTrue result ↔ All (λ v. IsSign side (turn p.now q.now (spot_seen v))) spots.now }
+{
+    for v in spots {
+        if side_of(p, q, *v) != side {
+            return false;
+        }
+    }
+    true
 }

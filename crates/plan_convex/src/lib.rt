@@ -2,7 +2,6 @@
 #![tactic(auto)]
 
 mod convex;
-mod meets;
 mod minkowski;
 #[cfg(test)]
 mod tests;

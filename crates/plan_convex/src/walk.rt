@@ -1,11 +1,11 @@
 ghost use Rattle.std.specs.Prelude.{◌≡◌, pos, ◌<◌, ◌≤◌, ◌<ℤ◌, ◌≤ℤ◌, ◌↔◌, IsTrue};
-ghost use Rattle.std.specs.Ordering.{MatchOrdering};
 ghost use Rattle.plan_spec.specs.Vector.{Before};
+ghost use Rattle.plan_grid.specs.Order.{IsSign};
 ghost use Rattle.plan_grid.specs.Spot.{spot_seen, IsWithin};
 ghost use Rattle.plan_convex.specs.Plane.{plus, way, opposite, cross};
 ghost use Rattle.plan_convex.specs.Walk.{IsTriangle, IsTurned, corners, edge, IsStart, IsOnward, IsStep};
 
-use plan_grid::{Spot, side};
+use plan_grid::{Spot, orientation};
 use std::cmp::Ordering;
 
 const ORIGIN: Spot = Spot { x: 0, y: 0 };
@@ -121,10 +121,9 @@ fn bend(a: Walk, b: Walk) -> Ordering
     requires a_next { IsWithin 1023 a.next }
     requires b_at { IsWithin 1023 b.at }
     requires b_next { IsWithin 1023 b.next }
-    ensures { let turn = cross (edge a) (edge b) in
-        MatchOrdering result (turn <ℤ pos 0) (turn ≡ pos 0) (pos 0 <ℤ turn) }
+    ensures { IsSign result (cross (edge a) (edge b)) }
 {
-    side(ORIGIN, a.edge(), b.edge()).cmp(&0)
+    orientation(ORIGIN, a.edge(), b.edge())
 }
 
 // On along the edge that turns less to the left, or along both where they have one direction.

@@ -1,19 +1,18 @@
 ghost use Rattle.std.specs.Prelude.{◌≡◌, pos, ◌*ℤ◌, ◌<ℤ◌, ◌≤◌, ◌↔◌, IsTrue, map, unsigned_abs};
 ghost use Rattle.plan_spec.specs.Vector.{LtX, turn};
 ghost use Rattle.plan_spec.specs.Parity.{over, over_from, parity};
-ghost use Rattle.plan_grid.specs.Spot.{spot_seen};
+ghost use Rattle.plan_grid.specs.Spot.{spot_seen, IsWithin};
 ghost use Rattle.plan_cross.specs.Segment.{segment_seen};
 
 use crate::segment::Segment;
 use plan_exact::Whole;
-use plan_grid::{Point, Spot, side_of};
+use plan_grid::{MOST_COORDINATE, Point, Spot, side_of};
 
 /// Whether the segment stands over `z`, whose coordinates are at most 2046 in absolute value: strictly above it, from
 /// the left end's x to before the right end's, so that a point under a common end of two segments counts once. A
 /// vertical segment stands over nothing.
 pub fn over(segment: &Segment, z: Spot) -> bool
-    requires x_bounded { unsigned_abs z.x ≤ 2046 }
-    requires y_bounded { unsigned_abs z.y ≤ 2046 }
+    requires { IsWithin MOST_COORDINATE z }
     ensures { result ≡ over (segment_seen segment.now) (spot_seen z) }
 {
     over_from(&segment.a, &segment.b, z) || over_from(&segment.b, &segment.a, z)
@@ -21,8 +20,7 @@ pub fn over(segment: &Segment, z: Spot) -> bool
 
 /// Whether an odd number of the segments stands over `z`, whose coordinates are at most 2046 in absolute value.
 pub fn parity(segments: &[Segment], z: Spot) -> bool
-    requires x_bounded { unsigned_abs z.x ≤ 2046 }
-    requires y_bounded { unsigned_abs z.y ≤ 2046 }
+    requires { IsWithin MOST_COORDINATE z }
     ensures { result ≡ parity (map segment_seen segments.now) (spot_seen z) }
 {
     let mut odd = false;
@@ -34,8 +32,7 @@ pub fn parity(segments: &[Segment], z: Spot) -> bool
 
 // Whether the segment from its left end `a` to `b` stands over `z`.
 fn over_from(a: &Point, b: &Point, z: Spot) -> bool
-    requires x_bounded { unsigned_abs z.x ≤ 2046 }
-    requires y_bounded { unsigned_abs z.y ≤ 2046 }
+    requires { IsWithin MOST_COORDINATE z }
     ensures { result ≡ over_from a.now b.now (spot_seen z) }
 {
     !is_right(a, z) && is_right(b, z) && is_above(a, b, z)
@@ -43,7 +40,7 @@ fn over_from(a: &Point, b: &Point, z: Spot) -> bool
 
 // Whether `p` is right of `z`.
 fn is_right(p: &Point, z: Spot) -> bool
-    requires { unsigned_abs z.x ≤ 2046 }
+    requires { unsigned_abs z.x ≤ MOST_COORDINATE }
     ensures { IsTrue result ↔ LtX (spot_seen z) p.now }
 {
     weighted(z.x, p).is_below(Whole::from(p.x()))
@@ -51,8 +48,7 @@ fn is_right(p: &Point, z: Spot) -> bool
 
 // Whether the line from `a` to its right end `b` is above `z`.
 fn is_above(a: &Point, b: &Point, z: Spot) -> bool
-    requires x_bounded { unsigned_abs z.x ≤ 2046 }
-    requires y_bounded { unsigned_abs z.y ≤ 2046 }
+    requires { IsWithin MOST_COORDINATE z }
     ensures { IsTrue result ↔ (turn a.now b.now (spot_seen z) <ℤ pos 0) }
 {
     side_of(a, b, z).is_lt()
@@ -60,7 +56,7 @@ fn is_above(a: &Point, b: &Point, z: Spot) -> bool
 
 // `z` times the weight of `p`.
 fn weighted(z: i32, p: &Point) -> Whole
-    requires { unsigned_abs z ≤ 2046 }
+    requires { unsigned_abs z ≤ MOST_COORDINATE }
     ensures { result ≡ z *ℤ p.now.w }
 {
     Whole::from(z).times(Whole::from(p.w()))

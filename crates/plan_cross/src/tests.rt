@@ -1,12 +1,11 @@
-ghost use Rattle.std.specs.Prelude.{◌≤◌, unsigned_abs};
+ghost use Rattle.plan_grid.specs.Spot.{IsWithin};
 
 use crate::{Chain, NoMemory, Segment, closed, over, parity};
-use plan_grid::{Point, Spot};
+use plan_grid::{MOST_COORDINATE, Point, Spot};
 use std::alloc::Global;
 
 fn spot(x: i8, y: i8) -> Spot
-    ensures x_bounded { unsigned_abs result.x ≤ 2046 }
-    ensures y_bounded { unsigned_abs result.y ≤ 2046 }
+    ensures { IsWithin MOST_COORDINATE result }
 {
     Spot {
         x: i32::from(x),

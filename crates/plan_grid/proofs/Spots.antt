@@ -1,5 +1,5 @@
 -- Spots in the order by x, then by y, which is total: of two different ones one comes before the other.
-use Rattle.std.proofs.Common.{◌≡◌, ◌⊎◌, inl, inr, ℕ, pos, ◌*ℤ◌, ◌<ℤ◌, ◌∙◌, sym, ap, List, get_or, arith}
+use Rattle.std.proofs.Common.{◌≡◌, ◌⊎◌, inl, inr, ℕ, pos, ◌*ℤ◌, ◌∙◌, sym, ap, List, get_or, arith}
 use Rattle.plan_exact.specs.Sign.{Order, is_less, is_equal, is_greater}
 use Rattle.plan_exact.proofs.Laws.{linear}
 use Rattle.plan_exact.proofs.Signs.{order_of}

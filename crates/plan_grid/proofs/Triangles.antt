@@ -1,14 +1,14 @@
 -- Triangles of spots: the corners differ, so one of them is the least, and taken in the other direction they turn the other way.
-use Rattle.std.proofs.Common.{◌≡◌, ◌⊎◌, inl, inr, ℤ, pos, ◌<ℤ◌, ◌≤ℤ◌, ◌∙◌, refl, sym, ap, subst, List, [], ◌∷◌, length, All, arith}
-use Rattle.std.proofs.lemmas.List.Elements.{All-nil, All-cons, All-head, All-tail}
+use Rattle.std.proofs.Common.{◌≡◌, ◌⊎◌, inl, inr, pos, ◌<ℤ◌, ◌≤ℤ◌, ◌∙◌, refl, sym, subst, List, [], ◌∷◌, length, All, arith}
+use Rattle.std.proofs.lemmas.List.Elements.{All-nil, All-cons}
 use Rattle.plan_exact.proofs.Laws.{linear}
 use Rattle.plan_exact.proofs.Vectors.{det_turned, det_swapped_right, cross_on_left}
-use Rattle.plan_spec.specs.Vector.{Vector, Before, turn}
+use Rattle.plan_spec.specs.Vector.{Before, turn}
 use Rattle.plan_spec.specs.Polygon.{IsFromLeast}
 use Rattle.plan_grid.specs.declared.bounds.TheConstants.{MOST_CORNER}
 use Rattle.plan_grid.specs.declared.spot.Spot.{Spot}
 use Rattle.plan_grid.specs.Spot.{spot_seen, spots_seen, IsWithin}
-use Rattle.plan_grid.specs.Triangle.{area, IsTriangle, IsCounterclockwise, IsRotation}
+use Rattle.plan_grid.specs.Triangle.{IsTriangle, IsCounterclockwise, IsRotation}
 use Rattle.plan_grid.proofs.Spots.{corner, before_or_after, before_trans}
 
 -- a triangle is its three corners, as code reads them

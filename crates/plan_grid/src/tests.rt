@@ -46,15 +46,15 @@ fn crossing(a: Ratio, b: Ratio) -> Point
 
 // A spot that is not far from the origin.
 fn near(x: i8, y: i8) -> Spot
-    ensures { IsWithin 2046 result }
+    ensures { IsWithin MOST_COORDINATE result }
 {
     spot(i32::from(x), i32::from(y))
 }
 
 // The height of a segment at an x, where it reaches it.
 fn level(a: Spot, b: Spot, x: Ratio) -> Option<Ratio>
-    requires a_bounded { IsWithin 2046 a }
-    requires b_bounded { IsWithin 2046 b }
+    requires a_bounded { IsWithin MOST_COORDINATE a }
+    requires b_bounded { IsWithin MOST_COORDINATE b }
 {
     if a.x >= b.x {
         return None;
@@ -117,6 +117,8 @@ fn points_are_ordered_by_x_then_by_y(rt: HostRuntime) {
         let q = point(&rt, b.0, b.1, b.2);
         assert_eq!(rt; compare(&p, &q), want, "at {a:?} {b:?}");
         assert_eq!(rt; compare(&q, &p), want.reverse(), "at {b:?} {a:?}");
+        assert_eq!(rt; p.cmp(&q), want, "at {a:?} {b:?}");
+        assert_eq!(rt; p == q, want == Ordering::Equal, "at {a:?} {b:?}");
     }
 }
 
@@ -158,11 +160,80 @@ fn spots_lie_left_or_right_of_a_line(rt: HostRuntime) {
         let q = point(&rt, b.0, b.1, b.2);
         assert_eq!(rt; side_of(&p, &q, spot(x, y)), want, "at {a:?} {b:?} {x} {y}");
     }
-    assert_eq!(rt; side(spot(0, 0), spot(4, 2), spot(1, 1)), 2);
+}
+
+// The side of a third spot, and where a spot or a rational point lies.
+#[test]
+fn three_spots_have_a_side_and_an_orientation(rt: HostRuntime) {
+    let (a, b) = (spot(0, 0), spot(4, 2));
+    for (x, y, area, want) in [
+        (1, 1, 2, Ordering::Greater),
+        (6, 3, 0, Ordering::Equal),
+        (1, 0, -2, Ordering::Less),
+    ] {
+        let c = spot(x, y);
+        let z = point(&rt, 3 * i64::from(x), 3 * i64::from(y), 3);
+        assert_eq!(rt; side(a, b, c), area, "at {x} {y}");
+        assert_eq!(rt; orientation(a, b, c), want, "at {x} {y}");
+        assert_eq!(rt; orientation_at(a, b, &z), want, "at {x} {y}");
+    }
+    assert_eq!(rt;
+        orientation_at(a, b, &point(&rt, 1, 1, 2)),
+        Ordering::Greater
+    );
     assert_eq!(rt;
         side(spot(i32::MIN, 0), spot(i32::MAX, 0), spot(0, i32::MAX)),
         9223372030412324865
     );
+}
+
+#[test]
+fn spots_are_added_and_compared_by_coordinates(rt: HostRuntime) {
+    let (a, b) = (near(1, -2), near(-3, 5));
+    assert!(rt; a.plus(b) == spot(-2, 3));
+    assert!(rt; a.minus(b) == spot(4, -7));
+    assert!(rt; a.to(b) == spot(-4, 7));
+    assert!(rt; a.opposite() == spot(-1, 2));
+    assert!(rt; a.least(b) == spot(-3, -2));
+    assert!(rt; a.greatest(b) == spot(1, 5));
+    assert!(rt; b.is_before(a) && !a.is_before(b) && !a.is_before(a));
+    assert!(rt; spot(1, -3).is_before(a));
+}
+
+#[test]
+fn frames_hold_what_is_strictly_between_their_sides(rt: HostRuntime) {
+    let frame = Frame {
+        low: spot(-1, -2),
+        high: spot(3, 4),
+    };
+    for (x, y, want) in [
+        (0, 0, false),
+        (-1, 0, true),
+        (3, 0, true),
+        (0, -2, true),
+        (0, 4, true),
+        (9, 9, true),
+        (2, 3, false),
+    ] {
+        assert!(rt; frame.is_on_or_beyond(spot(x, y)) == want, "at {x} {y}");
+    }
+}
+
+#[test]
+fn triangles_are_turned_counterclockwise(rt: HostRuntime) {
+    let (a, b, c) = (spot(0, 0), spot(4, 0), spot(0, 3));
+    assert!(rt; counterclockwise([a, b, c]) == [a, b, c]);
+    assert!(rt; counterclockwise([a, c, b]) == [a, b, c]);
+    assert!(rt; counterclockwise([c, b, a]) == [c, a, b]);
+}
+
+#[test]
+fn triangles_begin_at_their_least_corner(rt: HostRuntime) {
+    let (a, b, c) = (spot(0, 0), spot(4, 0), spot(0, 3));
+    assert!(rt; from_least([a, b, c]) == [a, b, c]);
+    assert!(rt; from_least([b, c, a]) == [a, b, c]);
+    assert!(rt; from_least([c, a, b]) == [a, b, c]);
+    assert!(rt; from_least([b, a, c]) == [a, c, b]);
 }
 
 #[test]
@@ -185,7 +256,6 @@ fn segments_hold_their_points(rt: HostRuntime) {
     }
     assert!(rt; on_segment(a, a, &point(&rt, 8, 4, 2)));
     assert!(rt; !on_segment(a, a, &point(&rt, 2, 1, 1)));
-    assert_eq!(rt; turn_at(b, a, &point(&rt, 1, 1, 2)).get(), 2);
 }
 
 #[test]
@@ -248,7 +318,7 @@ fn pairs_of_ratios_give_mediants_middles_and_points(rt: HostRuntime) {
 }
 
 #[test]
-fn heights_of_segments(rt: HostRuntime) {
+fn segments_have_a_height_at_each_x_between_their_ends(rt: HostRuntime) {
     for (ax, ay, bx, by, x, want) in [
         (0, 0, 4, 2, (3, 2), (3, 4)),
         (0, 0, 3, 1, (1, 1), (1, 3)),

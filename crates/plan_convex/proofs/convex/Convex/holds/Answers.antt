@@ -7,12 +7,11 @@ use Rattle.plan_convex.specs.Convex.{spots_seen}
 use Rattle.plan_convex.proofs.Edges.{edge_at, inside_by_number, left_of_edge}
 use Rattle.plan_convex.proofs.convex.Convex.holds.Goals as goal
 
-pub returns-then-is_negative : goal.returns-then-is_negative
-returns-then-is_negative c =
+pub returns-then-is_right : goal.returns-then-is_right
+returns-then-is_right c =
     let spots = c.as_slice-spots.result.now in
     let same : spots ≡ c.args.self.now = c.as_slice-spots.ensures ∙ c.self.view_is in
-    let right = c.if-is_negative.ensures.0 refl in
-    let value = c.turn_at.ensures.value in (
+    let right = c.if-is_right.ensures.0 refl in (
       λ no. cc,
       λ inside.
           let left = left_of_edge spots c.args.z.now c.loop-i.i c.loop-i-test.true (subst (λ l. Inside (spots_seen l) c.args.z.now) (sym same) inside) in
@@ -23,7 +22,7 @@ pub loop-i-preserved : goal.loop-i-preserved
 loop-i-preserved c =
     let spots = c.as_slice-spots.result.now in
     below_more (λ k. OnOrLeft c.args.z.now (edge_at spots k)) c.loop-i.i c.loop-i.invariant
-    (subst (λ k. pos 0 ≤ℤ k) c.turn_at.ensures.value (not_negative c.turn_at.result (λ h. let e = c.if-is_negative.ensures.1 h in cc)))
+    (not_negative _ (λ h. let e = c.if-is_right.ensures.1 h in cc))
   where
     not_negative : (a : ℤ) → ¬ (a <ℤ pos 0) → pos 0 ≤ℤ a
     not_negative a h = by (nonneg_or_neg a)

@@ -1,6 +1,6 @@
 -- No coordinate overflows, so both are as computed.
 use Rattle.std.proofs.Common.{rules, refl, ◌+ℤ◌, w32, SFits, to_z-of_z, arith}
-use Rattle.std.proofs.lemmas.Int.{ints, fits_signed_from_abs}
+use Rattle.std.proofs.lemmas.Int.{fits_signed_from_abs}
 use Rattle.plan_grid.proofs.spot.Spot.plus.Goals as goal
 
 pub returns : goal.returns

@@ -2,7 +2,7 @@
 use Rattle.std.proofs.Common.{sym, subst, below_more, refl, ◌∙◌, arith}
 use Rattle.plan_convex.specs.Meets.{AreRight}
 use Rattle.plan_convex.proofs.Edges.{edge_at, get_or-edges, length-edges}
-use Rattle.plan_convex.proofs.meets.is_right_of_edge.Goals as goal
+use Rattle.plan_convex.proofs.convex.is_right_of_edge.Goals as goal
 
 pub loop-i-preserved : goal.loop-i-preserved
 loop-i-preserved c =

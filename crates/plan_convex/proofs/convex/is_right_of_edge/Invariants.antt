@@ -2,7 +2,7 @@
 use Rattle.std.proofs.Common.{ℕ, ◌<◌}
 use Rattle.plan_convex.specs.Meets.{AreRight}
 use Rattle.plan_convex.proofs.Edges.{edge_at}
-use Rattle.plan_convex.proofs.meets.is_right_of_edge.Given as goal
+use Rattle.plan_convex.proofs.convex.is_right_of_edge.Given as goal
 
 abbrev pub invariant-loop-i : goal.invariant-loop-i
 invariant-loop-i l = (k : ℕ) → k < l.i → ¬ (AreRight l.p l.q (edge_at l.spots k))

@@ -6,7 +6,7 @@ use Rattle.plan_grid.specs.Order.{IsSign}
 use Rattle.plan_grid.specs.Spot.{spot_seen}
 use Rattle.plan_convex.proofs.Least.{corner}
 use Rattle.plan_convex.proofs.Signs.{sign_differs, sign_same}
-use Rattle.plan_convex.proofs.meets.are_all.Goals as goal
+use Rattle.plan_convex.proofs.convex.are_all.Goals as goal
 
 pub returns-then-ne : goal.returns-then-ne
 returns-then-ne c = (λ e. absurd cc, λ all. absurd (sign_differs c.side_of.result c.args.side _ c.if-ne.ensures c.side_of.ensures (all c.loop-v.v-index _ c.loop-v-test.true)))

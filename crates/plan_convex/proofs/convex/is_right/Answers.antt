@@ -1,0 +1,6 @@
+-- Less says that the turn is negative.
+use Rattle.plan_grid.proofs.Signs.{less_is_negative}
+use Rattle.plan_convex.proofs.convex.is_right.Goals as goal
+
+pub returns : goal.returns
+returns c = rw c.is_lt.ensures (less_is_negative _ _ c.orientation_at.ensures)
