@@ -2,7 +2,7 @@
 use Rattle.std.specs.Prelude.{◌≡◌, ℕ, ◌+◌, ◌-◌, ◌*◌, ◌<◌, List, [], ◌∷◌, None, option_and_then, if◌then◌else◌, true, false, refl}
 use Rattle.std.proofs.Common.{arith}
 use Rattle.std.proofs.lemmas.Grind.{common_steps}
-use Rattle.plan_top.specs.Words.{is_digit, with_digits, at_most}
+use Rattle.plan_top.specs.Command.{is_digit, with_digits, at_most}
 
 pub above : (limit n b : ℕ) (bs : List ℕ) → limit < 10 * n + (b - 48) → option_and_then (at_most limit) (with_digits n (b ∷ bs)) ≡ None
 above limit n b [] over =

@@ -1,10 +1,5 @@
 pub mod Digits
-mod WordRows
+mod CommandCases
 pub mod Outcomes
-mod Corners
-mod Box
-mod Segments
-mod Faults
-mod Leaving
-mod ClearPaths
-mod Touching
+mod Scenes
+mod Checks

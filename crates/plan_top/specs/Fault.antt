@@ -1,7 +1,7 @@
 -- A fault that a check tells, as a fault of a path.
 use Rattle.plan_spec.specs.Reply.{PathFault, empty_path, wrong_start, wrong_goal, touches}
-use Rattle.plan_top.specs.declared.check_fault.CheckFault.{CheckFault}
-use Rattle.plan_top.specs.declared.check_fault.CheckFault.TheVariants.{EmptyPath, WrongStart, WrongGoal, Touches}
+use Rattle.plan_top.specs.declared.fault.CheckFault.{CheckFault}
+use Rattle.plan_top.specs.declared.fault.CheckFault.TheVariants.{EmptyPath, WrongStart, WrongGoal, Touches}
 
 abbrev pub fault_seen : CheckFault → PathFault
 fault_seen EmptyPath = empty_path

@@ -1,7 +1,8 @@
 pub mod Fault
 pub mod Status
-pub mod Words
-pub mod Text
+pub mod Command
+pub mod Lines
 pub mod Outcome
-pub mod Room
-pub mod Legs
+pub mod Sum
+pub mod Scene
+pub mod Check

@@ -1,42 +1,27 @@
-ghost use Rattle.std.specs.Prelude.{Some, IfOk, string_bytes};
+ghost use Rattle.std.specs.Prelude.{Some, IfOk};
 ghost use Rattle.plan_top.specs.Outcome.{IsAnswer};
 
-use crate::first_fault::first_fault;
+use crate::check::check;
 use crate::no_memory::NoMemory;
+use crate::scene::Scene;
 use crate::status::{Refusal, Status};
 use plan_wire::{FirstReadFault, read_first};
 use std::alloc::Global;
 
-/// What a call answers: its status, and the line that it writes.
-#[derive(Drop)]
-pub struct Answer {
-    pub status: Status,
-    pub line: String,
-}
-
 /// What `check` answers to the bytes.
-pub fn answer_to(alloc: Global, bytes: &[u8]) -> Result<Answer, NoMemory>
-    ensures { IfOk result (λ answer. IsAnswer (Some bytes.now) answer.status (string_bytes answer.line)) }
+pub fn answer_to(alloc: Global, bytes: &[u8]) -> Result<Status, NoMemory>
+    ensures { IfOk result (IsAnswer (Some bytes.now)) }
 {
     let document = match read_first(alloc, bytes) {
         Ok(document) => document,
-        Err(FirstReadFault::Later) => {
-            let line = String::from_str(alloc, "refused: later\n")?;
-            let status = Status::Refused(Refusal::Later);
-            return Ok(Answer { status, line });
-        }
+        Err(FirstReadFault::Later) => return Ok(Status::Refused(Refusal::Later)),
         Err(FirstReadFault::NoMemory) => return Err(NoMemory),
     };
-    match first_fault(alloc, &document)? {
-        None => {
-            let line = String::from_str(alloc, "valid\n")?;
-            let status = Status::Done;
-            Ok(Answer { status, line })
-        }
-        Some(fault) => {
-            let line = format!(in alloc; "invalid: {fault}\n")?;
-            let status = Status::Invalid(fault);
-            Ok(Answer { status, line })
-        }
+    let path = document.path.as_slice();
+    let obstacles = document.obstacles.as_slice();
+    let scene = Scene::of(alloc, document.frame, document.robot, obstacles)?;
+    match check(&scene, document.start, document.goal, path) {
+        None => Ok(Status::Done),
+        Some(fault) => Ok(Status::Invalid(fault)),
     }
 }

@@ -2,18 +2,20 @@
 #![tactic(auto)]
 
 mod answer;
-mod check_fault;
-mod first_fault;
-mod legs;
+mod check;
+mod command;
+mod fault;
+mod lines;
 mod no_memory;
 mod oriented;
 mod room;
+mod scene;
 mod status;
+mod sum;
 mod top;
-mod words;
 
-pub use check_fault::CheckFault;
+pub use command::Command;
+pub use fault::CheckFault;
 pub use no_memory::NoMemory;
 pub use status::{Refusal, Status};
 pub use top::{run, run_check};
-pub use words::Command;

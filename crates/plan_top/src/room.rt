@@ -4,8 +4,9 @@ ghost use Rattle.plan_spec.specs.Vector.{LeX, LeY};
 ghost use Rattle.plan_spec.specs.Frame.{OnOrBeyond};
 ghost use Rattle.plan_grid.specs.Frame.{frame_seen};
 ghost use Rattle.plan_grid.specs.Spot.{spot_seen, IsWithin};
+ghost use Rattle.plan_convex.specs.Convex.{spots_seen};
 ghost use Rattle.plan_wire.specs.Fits.{IsFrame, IsShape};
-ghost use Rattle.plan_top.specs.Room.{IsRoom};
+ghost use Rattle.plan_top.specs.Scene.{IsRoom};
 
 use plan_grid::{Frame, Spot};
 
@@ -14,7 +15,7 @@ use plan_grid::{Frame, Spot};
 pub fn room(frame: Frame, robot: [Spot; 3]) -> Frame
     requires frame { IsFrame frame }
     requires robot { IsShape robot }
-    ensures { IsRoom robot frame result }
+    ensures { IsRoom (spots_seen robot) (frame_seen frame) (frame_seen result) }
 {
     let [a, b, c] = robot;
     Frame {
@@ -23,8 +24,8 @@ pub fn room(frame: Frame, robot: [Spot; 3]) -> Frame
     }
 }
 
-// The least coordinates of two spots.
-fn lowest(p: Spot, q: Spot) -> Spot
+/// The least coordinates of two spots.
+pub fn lowest(p: Spot, q: Spot) -> Spot
     ensures x { result.x ≡ int_min p.x q.x }
     ensures y { result.y ≡ int_min p.y q.y }
 {
@@ -34,8 +35,8 @@ fn lowest(p: Spot, q: Spot) -> Spot
     }
 }
 
-// The greatest coordinates of two spots.
-fn highest(p: Spot, q: Spot) -> Spot
+/// The greatest coordinates of two spots.
+pub fn highest(p: Spot, q: Spot) -> Spot
     ensures x { result.x ≡ int_max p.x q.x }
     ensures y { result.y ≡ int_max p.y q.y }
 {

@@ -1,22 +1,18 @@
 ghost use Rattle.std.specs.Prelude.{◌≡◌, ◌≢◌, ◌+◌, ◌≤◌, Some, map, string_bytes};
 ghost use Rattle.plan_wire.specs.Document.{most_bytes};
 ghost use Rattle.plan_wire.specs.Stream.{TakesAtMost};
-ghost use Rattle.plan_top.specs.Outcome.{CheckOutcome, LineOutcome, Outcome};
-ghost use Rattle.plan_top.specs.Words.{command_of};
+ghost use Rattle.plan_top.specs.Lines.{line_of};
+ghost use Rattle.plan_top.specs.Outcome.{AnswerOutcome, CheckOutcome, LineOutcome, Outcome, SourceCount, SinkCount};
+ghost use Rattle.plan_top.specs.Command.{command_of};
 
 use crate::answer::answer_to;
+use crate::command::{Command, command_of};
+use crate::lines::{LATER, USAGE, line_of};
 use crate::no_memory::NoMemory;
 use crate::status::{Refusal, Status};
-use crate::words::{Command, command_of};
 use plan_wire::{Failed, Sink, Source, TakeFault, put_line, take_all};
 use std::alloc::Global;
 use std::thread::Threads;
-
-/// The line of words that have none of the four forms.
-const USAGE: &str = "usage: planner plan N | session N | check | demo K N\n";
-
-/// The line of a command or a document that is not answered yet.
-const LATER: &str = "refused: later\n";
 
 /// Runs the command of the words after the program's name, which are `plan N`, `session N`, `check` or `demo K N`,
 /// with N from 1 to 16 and K from 1 to 1000.
@@ -30,15 +26,15 @@ pub fn run<R: Threads + Sync, S: Source, K: Sink>(
     sink: &mut K,
 ) -> Status
     ensures outcome { Outcome (command_of (map string_bytes words.now))
-        record { remaining = S.remaining source.old; faults = S.faults source.old }
-        record { remaining = S.remaining source.new; faults = S.faults source.new }
-        record { written = K.written sink.old; faults = K.faults sink.old }
-        record { written = K.written sink.new; faults = K.faults sink.new } result }
+        (S.remaining source.old) (S.remaining source.new)
+        (K.written sink.old) (K.written sink.new) result }
     ensures unread { command_of (map string_bytes words.now) ≢ Some Command.Check
         → source.new ≡ source.old }
     ensures taken { TakesAtMost (most_bytes + 1) (S.remaining source.old) (S.remaining source.new) }
-    ensures source_count { S.faults source.old ≤ S.faults source.new }
-    ensures sink_count { K.faults sink.old ≤ K.faults sink.new }
+    ensures source_count { SourceCount S.rises (S.faults source.old) (S.faults source.new) result }
+    ensures source_monotone { S.faults source.old ≤ S.faults source.new }
+    ensures sink_count { SinkCount K.rises (K.faults sink.old) (K.faults sink.new) result }
+    ensures sink_monotone { K.faults sink.old ≤ K.faults sink.new }
 {
     match command_of(words) {
         Some(Command::Check) => run_check(rt, alloc, source, sink),
@@ -56,18 +52,17 @@ pub fn run_check<R: Threads + Sync, S: Source, K: Sink>(
     source: &mut S,
     sink: &mut K,
 ) -> Status
-    ensures outcome { CheckOutcome
-        record { remaining = S.remaining source.old; faults = S.faults source.old }
-        record { remaining = S.remaining source.new; faults = S.faults source.new }
-        record { written = K.written sink.old; faults = K.faults sink.old }
-        record { written = K.written sink.new; faults = K.faults sink.new } result }
+    ensures outcome { CheckOutcome (S.remaining source.old) (S.remaining source.new)
+        (K.written sink.old) (K.written sink.new) result }
     ensures taken { TakesAtMost (most_bytes + 1) (S.remaining source.old) (S.remaining source.new) }
-    ensures source_count { S.faults source.old ≤ S.faults source.new }
-    ensures sink_count { K.faults sink.old ≤ K.faults sink.new }
+    ensures source_count { SourceCount S.rises (S.faults source.old) (S.faults source.new) result }
+    ensures source_monotone { S.faults source.old ≤ S.faults source.new }
+    ensures sink_count { SinkCount K.rises (K.faults sink.old) (K.faults sink.new) result }
+    ensures sink_monotone { K.faults sink.old ≤ K.faults sink.new }
 {
     match take_all(alloc, source) {
         Ok(bytes) => match answer_to(alloc, bytes.as_slice()) {
-            Ok(answer) => write_line(sink, answer.status, answer.line.as_str()),
+            Ok(answer) => write_answer(alloc, sink, answer),
             Err(NoMemory) => Status::NoMemory,
         },
         Err(TakeFault::TooLong) => write_line(sink, Status::Refused(Refusal::Later), LATER),
@@ -76,15 +71,29 @@ pub fn run_check<R: Threads + Sync, S: Source, K: Sink>(
     }
 }
 
-/// Writes the line of an answer. The status is the answer's, or a write fault.
-fn write_line<K: Sink>(sink: &mut K, status: Status, line: &str) -> Status
-    ensures outcome { LineOutcome status line.now
-        record { written = K.written sink.old; faults = K.faults sink.old }
-        record { written = K.written sink.new; faults = K.faults sink.new } result }
-    ensures count { K.faults sink.old ≤ K.faults sink.new }
+// Makes the line of an answer and writes it. The status is the answer's, a write fault, or want of memory.
+fn write_answer<K: Sink>(alloc: Global, sink: &mut K, answer: Status) -> Status
+    requires { answer ≢ Status.WriteFault }
+    ensures outcome { AnswerOutcome answer (K.written sink.old) (K.written sink.new) result }
+    ensures count { SinkCount K.rises (K.faults sink.old) (K.faults sink.new) result }
+    ensures monotone { K.faults sink.old ≤ K.faults sink.new }
+{
+    match line_of(alloc, answer) {
+        Ok(line) => write_line(sink, answer, line.as_str()),
+        Err(_) => Status::NoMemory,
+    }
+}
+
+// Writes the line of an answer. The status is the answer's, or a write fault.
+fn write_line<K: Sink>(sink: &mut K, answer: Status, line: &str) -> Status
+    requires answer { answer ≢ Status.WriteFault }
+    requires line { line.now ≡ line_of answer }
+    ensures outcome { LineOutcome answer (K.written sink.old) (K.written sink.new) result }
+    ensures count { SinkCount K.rises (K.faults sink.old) (K.faults sink.new) result }
+    ensures monotone { K.faults sink.old ≤ K.faults sink.new }
 {
     match put_line(sink, line.as_bytes()) {
-        Ok(()) => status,
+        Ok(()) => answer,
         Err(Failed) => Status::WriteFault,
     }
 }

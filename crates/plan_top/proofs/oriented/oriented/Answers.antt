@@ -2,7 +2,7 @@
 use Rattle.std.proofs.Common.{◌≡◌, ◌<ℤ◌, ◌≤ℤ◌, ℤ, pos, true, false, int_lt, to_z, of_z, SFits, to_z-of_z, rules, ap, sym, ◌∙◌, arith}
 use Rattle.std.proofs.lemmas.Int.{ints}
 use Rattle.std.specs.Int.{w128}
-use Rattle.plan_top.proofs.Corners.{corner_turn, left_as_given, left_turned}
+use Rattle.plan_top.proofs.Scenes.Corners.{corner_turn, left_as_given, left_turned}
 use Rattle.plan_top.proofs.oriented.oriented.Goals as goal
 
 -- the test reads the number's bits

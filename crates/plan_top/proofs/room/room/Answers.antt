@@ -1,7 +1,7 @@
 -- The corners of the room are those of the frame, moved by the robot's box.
 use Rattle.std.proofs.Common.{◌≡◌, sym, subst}
 use Rattle.plan_grid.specs.Spot.{IsWithin}
-use Rattle.plan_top.proofs.Box.{low, high, room_is, low_within, high_within, spot_is}
+use Rattle.plan_top.proofs.Scenes.Box.{low, high, room_is, low_within, high_within, spot_is}
 use Rattle.plan_convex.proofs.Least.{corner}
 use Rattle.plan_top.proofs.room.room.Goals as goal
 

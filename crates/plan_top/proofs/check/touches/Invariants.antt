@@ -1,0 +1,10 @@
+-- The sums so far have no point of the segment.
+use Rattle.std.proofs.Common.{ℕ, [], ◌<◌, get_or}
+use Rattle.plan_spec.specs.Polygon.{Inside}
+use Rattle.plan_grid.specs.Spot.{edge_seen}
+use Rattle.plan_convex.specs.Convex.{spots_seen}
+use Rattle.plan_top.specs.Sum.{Along}
+use Rattle.plan_top.proofs.check.touches.Given as goal
+
+abbrev pub invariant-loop-sum : goal.invariant-loop-sum
+invariant-loop-sum l = (k : ℕ) → k < l.sum-index → ¬ (Along (edge_seen l.a l.b) (Inside (spots_seen (get_or l.fn.scene.sums.items k []))))
