@@ -1,5 +1,5 @@
 -- Chains of spots: what holds of each pair of neighbours, and of the last spot with the one that comes next. Where the one that comes next is the first, these are the edges of a polygon.
-use Rattle.std.proofs.Common.{◌⊎◌, inl, inr, suc, pos, ◌<◌, ◌*ℤ◌, ◌≤ℤ◌, ◌<ℤ◌, sym, ap, subst, List, [], ◌∷◌, ◌++◌, length, get_or, arith}
+use Rattle.std.proofs.Common.{◌≡◌, ◌⊎◌, inl, inr, suc, pos, ◌<◌, ◌*ℤ◌, ◌≤ℤ◌, ◌<ℤ◌, sym, ap, subst, List, [], ◌∷◌, ◌++◌, length, get_or, arith}
 use Rattle.std.proofs.lemmas.List.{get_or-map, length-map}
 use Rattle.std.specs.Prelude.{All, AllPairs}
 use Rattle.std.proofs.lemmas.Int.{ints}
@@ -12,11 +12,10 @@ use Rattle.plan_spec.specs.Vector.{Same, Before}
 use Rattle.plan_spec.specs.Segment.{Segment}
 use Rattle.plan_spec.specs.Polygon.{IsConvex, EndOrLeft, edges_to}
 use Rattle.plan_grid.specs.declared.spot.Spot.{Spot}
-use Rattle.plan_grid.specs.Spot.{spot_seen, edge_seen, IsWithin}
-use Rattle.plan_convex.specs.Convex.{spots_seen}
-use Rattle.plan_convex.specs.Plane.{way, cross}
-use Rattle.plan_convex.proofs.Corners.{IsSame, Borders, IsCorner, corner_left, borders_spot}
-use Rattle.plan_convex.proofs.Triangle.{turn_cross}
+use Rattle.plan_grid.specs.Spot.{spot_seen, edge_seen, IsWithin, spots_seen, way, cross}
+use Rattle.plan_grid.proofs.Spots.{spot_path}
+use Rattle.plan_convex.proofs.Corners.{Borders, IsCorner, corner_left, borders_spot}
+use Rattle.plan_grid.proofs.Turns.{turn_cross}
 use Rattle.plan_convex.proofs.Walks.{baseline}
 
 -- R holds of neighbours, and of the last spot and v
@@ -41,33 +40,33 @@ edges_from_sides R P Q f (a ∷ (b ∷ vs)) v all last h =
 -- a side of S from a to b: all of S is on or left of it, and it is not of length 0
 pub record IsSide (S : Vector → Type 0) (a b : Spot) : Type 0 where
   pub borders : Borders S a (way a b)
-  pub apart : ¬ (IsSame a b)
+  pub apart : ¬ (a ≡ b)
 
-same_vectors : (p q : Spot) → IsSame p q → Same (spot_seen p) (spot_seen q)
-same_vectors p q s = (ap (λ k. k *ℤ pos 1) s.0, ap (λ k. k *ℤ pos 1) s.1)
+same_vectors : (p q : Spot) → p ≡ q → Same (spot_seen p) (spot_seen q)
+same_vectors p q e = (ap (λ (s : Spot). s.x *ℤ pos 1) e, ap (λ (s : Spot). s.y *ℤ pos 1) e)
 
 -- a corner is an end of a side, or strictly left of it
 end_or_left : (S : Vector → Type 0) (a b u : Spot) → IsSide S a b → IsCorner S a → IsCorner S b → IsCorner S u → EndOrLeft (edge_seen a b) (spot_seen u)
 end_or_left S a b u side ca cb cu = by (corner_left S a b u side.apart ca cb cu (borders_spot S a (way a b) u side.borders cu.belongs))
   where
-    by : IsSame u a ⊎ (IsSame u b ⊎ (pos 0 <ℤ cross (way a b) (way a u))) → EndOrLeft (edge_seen a b) (spot_seen u)
+    by : (u ≡ a) ⊎ ((u ≡ b) ⊎ (pos 0 <ℤ cross (way a b) (way a u))) → EndOrLeft (edge_seen a b) (spot_seen u)
     by (inl s) = inl (same_vectors u a s)
     by (inr (inl s)) = inr (inl (same_vectors u b s))
     by (inr (inr left)) = inr (inr (subst (λ k. pos 0 <ℤ k) (sym (turn_cross a b u)) left))
 
 -- ---- from the least vertex on
-before_from : (v u : Spot) → IsWithin 2046 v → IsWithin 2046 u → ¬ (IsSame v u) → pos 0 ≤ℤ cross baseline (way v u) → Before (spot_seen v) (spot_seen u)
+before_from : (v u : Spot) → IsWithin 2046 v → IsWithin 2046 u → ¬ (v ≡ u) → pos 0 ≤ℤ cross baseline (way v u) → Before (spot_seen v) (spot_seen u)
 before_from v u hv hu apart rises = by (order_of v.x u.x) (order_of v.y u.y)
   where
     by : Order v.x u.x → Order v.y u.y → Before (spot_seen v) (spot_seen u)
     by (is_less p) q = inl (omega (arith, ints))
     by (is_equal p) (is_less q) = inr (ap (λ k. k *ℤ pos 1) p, omega (arith, ints))
-    by (is_equal p) (is_equal q) = absurd (apart (p, q))
+    by (is_equal p) (is_equal q) = absurd (apart (spot_path p q))
     by (is_equal p) (is_greater q) = absurd (omega (arith, ints))
     by (is_greater p) q = absurd (omega (arith, ints))
 
 -- spots that differ are different points
-distinct_vectors : (v : Spot) (vs : List Spot) → AllPairs (λ a b. ¬ (IsSame a b)) (v ∷ vs) → AllPairs (λ a b. ¬ (Same a b)) (spots_seen (v ∷ vs))
+distinct_vectors : (v : Spot) (vs : List Spot) → AllPairs (λ a b. ¬ (a ≡ b)) (v ∷ vs) → AllPairs (λ a b. ¬ (Same a b)) (spots_seen (v ∷ vs))
 distinct_vectors v vs h i j d lt within =
     let spots = v ∷ vs in
     let fits : j < length spots = omega (arith, length-map spots spot_seen) in
@@ -76,11 +75,11 @@ distinct_vectors v vs h i j d lt within =
     λ same. h i j v lt fits (same_spots (get_or spots i v) (get_or spots j v)
     (subst (λ p. P p (spot_seen (get_or spots j v))) (get_or-map spot_seen spots i v d first) (subst (P (get_or (spots_seen spots) i d)) (get_or-map spot_seen spots j v d fits) same)))
   where
-    same_spots : (p q : Spot) → Same (spot_seen p) (spot_seen q) → IsSame p q
-    same_spots p q s = let e = s.0 in let f = s.1 in (omega (arith, linear), omega (arith, linear))
+    same_spots : (p q : Spot) → Same (spot_seen p) (spot_seen q) → p ≡ q
+    same_spots p q s = let e = s.0 in let f = s.1 in spot_path (omega (arith, linear)) (omega (arith, linear))
 
 -- ---- a closed chain of sides between corners is a convex polygon
-pub convex_from_sides : (S : Vector → Type 0) (v : Spot) (vs : List Spot) → Borders S v baseline → All (IsCorner S) (v ∷ vs) → All (IsWithin 2046) (v ∷ vs) → AllPairs (λ a b. ¬ (IsSame a b)) (v ∷ vs) → AllSides (IsSide S) (v ∷ vs) v → IsConvex (spots_seen (v ∷ vs))
+pub convex_from_sides : (S : Vector → Type 0) (v : Spot) (vs : List Spot) → Borders S v baseline → All (IsCorner S) (v ∷ vs) → All (IsWithin 2046) (v ∷ vs) → AllPairs (λ a b. ¬ (a ≡ b)) (v ∷ vs) → AllSides (IsSide S) (v ∷ vs) v → IsConvex (spots_seen (v ∷ vs))
 convex_from_sides S v vs lowest corners small distinct sides = record {
   least = All-map (Before (spot_seen v)) spot_seen vs (λ k d lt.
       before_from v (get_or vs k d) (All-head (IsWithin 2046) v vs small) (All-tail (IsWithin 2046) v vs small k d lt) (distinct 0 (suc k) d (omega arith) (omega arith))

@@ -1,6 +1,6 @@
 -- Cross products of directions in the plane: what the signs of some say of the others, by the relation that any four directions have.
-use Rattle.std.proofs.Common.{◌≡◌, ℕ, ℤ, pos, ◌+ℤ◌, ◌*ℤ◌, neg_ℤ, ◌≤ℤ◌, ◌<ℤ◌, ◌+◌, ◌*◌, List, [], ◌∷◌, arith}
-use Rattle.plan_exact.specs.Expr.{Expr, var, ◌⊕◌, ◌⊖◌, ◌⊗◌, neg}
+use Rattle.std.proofs.Common.{◌≡◌, ℤ, pos, ◌+ℤ◌, ◌*ℤ◌, neg_ℤ, ◌≤ℤ◌, ◌<ℤ◌, [], ◌∷◌, arith}
+use Rattle.plan_exact.specs.Expr.{◌⊕◌, ◌⊗◌, neg}
 use Rattle.plan_exact.specs.Formal.{zero}
 use Rattle.plan_exact.specs.Sign.{Sign, is_negative, is_zero, is_positive}
 use Rattle.plan_exact.proofs.Certificates.{eq_from}
@@ -8,59 +8,35 @@ use Rattle.plan_exact.proofs.Laws.{linear}
 use Rattle.plan_exact.proofs.Ring.{ring}
 use Rattle.plan_exact.proofs.Signs.{zeros, sign_of, mul_pos, mul_nonneg, mul_of_zero, mul_pos_neg, mul_neg_neg, mul_nonpos_nonneg, mul_neg_pos, mul_nonneg_nonpos, neg_of_mul, pos_of_mul}
 use Rattle.plan_grid.specs.declared.spot.Spot.{Spot}
-use Rattle.plan_convex.specs.Plane.{plus, way, cross}
-
--- ---- the words of `Plane` over expressions, at the list of both coordinates of each spot
-abbrev pub coordinates : List Spot → List ℤ
-coordinates [] = []
-coordinates (a ∷ rest) = a.x ∷ a.y ∷ coordinates rest
-
-pub record Pair : Type 0 where
-  pub x : Expr
-  pub y : Expr
-
-abbrev pub P : ℕ → Pair
-P i = record { x = var (2 * i); y = var (2 * i + 1) }
-
-abbrev pub plusE : Pair → Pair → Pair
-plusE p q = record { x = p.x ⊕ q.x; y = p.y ⊕ q.y }
-
-abbrev pub wayE : Pair → Pair → Pair
-wayE p q = record { x = q.x ⊖ p.x; y = q.y ⊖ p.y }
-
-abbrev pub crossE : Pair → Pair → Expr
-crossE d e = d.x ⊗ e.y ⊖ d.y ⊗ e.x
-
--- ---- laws
--- two spots of the same coordinates are one
-pub spot_path : {p q : Spot} → p.x ≡ q.x → p.y ≡ q.y → p ≡ q
-spot_path e f = λ i. record { x = e i; y = f i }
+use Rattle.plan_grid.specs.Spot.{plus, way, cross}
+use Rattle.plan_grid.proofs.FormalSpots as S
+use Rattle.plan_grid.proofs.FormalSpots.{coordinates, P}
 
 pub cross_swapped : (d e : Spot) → cross d e ≡ neg_ℤ (cross e d)
-cross_swapped d e = ring (coordinates (d ∷ e ∷ [])) (crossE (P 0) (P 1)) (neg (crossE (P 1) (P 0))) tt
+cross_swapped d e = ring (coordinates (d ∷ e ∷ [])) (S.cross (P 0) (P 1)) (neg (S.cross (P 1) (P 0))) tt
 
 pub cross_self : (d : Spot) → cross d d ≡ pos 0
-cross_self d = ring (coordinates (d ∷ [])) (crossE (P 0) (P 0)) zero tt
+cross_self d = ring (coordinates (d ∷ [])) (S.cross (P 0) (P 0)) zero tt
 
 pub cross_plus : (d e h : Spot) → cross (plus d e) h ≡ cross d h +ℤ cross e h
-cross_plus d e h = ring (coordinates (d ∷ e ∷ h ∷ [])) (crossE (plusE (P 0) (P 1)) (P 2)) (crossE (P 0) (P 2) ⊕ crossE (P 1) (P 2)) tt
+cross_plus d e h = ring (coordinates (d ∷ e ∷ h ∷ [])) (S.cross (S.plus (P 0) (P 1)) (P 2)) (S.cross (P 0) (P 2) ⊕ S.cross (P 1) (P 2)) tt
 
 pub cross_plus_right : (d e h : Spot) → cross h (plus d e) ≡ cross h d +ℤ cross h e
-cross_plus_right d e h = ring (coordinates (d ∷ e ∷ h ∷ [])) (crossE (P 2) (plusE (P 0) (P 1))) (crossE (P 2) (P 0) ⊕ crossE (P 2) (P 1)) tt
+cross_plus_right d e h = ring (coordinates (d ∷ e ∷ h ∷ [])) (S.cross (P 2) (S.plus (P 0) (P 1))) (S.cross (P 2) (P 0) ⊕ S.cross (P 2) (P 1)) tt
 
 -- back and forth, and on by way of a third spot
 pub cross_way_back : (d p q : Spot) → cross d (way q p) ≡ neg_ℤ (cross d (way p q))
-cross_way_back d p q = ring (coordinates (d ∷ p ∷ q ∷ [])) (crossE (P 0) (wayE (P 2) (P 1))) (neg (crossE (P 0) (wayE (P 1) (P 2)))) tt
+cross_way_back d p q = ring (coordinates (d ∷ p ∷ q ∷ [])) (S.cross (P 0) (S.way (P 2) (P 1))) (neg (S.cross (P 0) (S.way (P 1) (P 2)))) tt
 
 pub cross_way_on : (d p q r : Spot) → cross d (way p r) ≡ cross d (way p q) +ℤ cross d (way q r)
-cross_way_on d p q r = ring (coordinates (d ∷ p ∷ q ∷ r ∷ [])) (crossE (P 0) (wayE (P 1) (P 3))) (crossE (P 0) (wayE (P 1) (P 2)) ⊕ crossE (P 0) (wayE (P 2) (P 3))) tt
+cross_way_on d p q r = ring (coordinates (d ∷ p ∷ q ∷ r ∷ [])) (S.cross (P 0) (S.way (P 1) (P 3))) (S.cross (P 0) (S.way (P 1) (P 2)) ⊕ S.cross (P 0) (S.way (P 2) (P 3))) tt
 
 -- the relation of four directions (Grassmann, Plücker), and the same for two of which two others are taken
 pub four_crosses : (d e f h : Spot) → cross d e *ℤ cross f h +ℤ cross d h *ℤ cross e f ≡ cross d f *ℤ cross e h
-four_crosses d e f h = ring (coordinates (d ∷ e ∷ f ∷ h ∷ [])) (crossE (P 0) (P 1) ⊗ crossE (P 2) (P 3) ⊕ crossE (P 0) (P 3) ⊗ crossE (P 1) (P 2)) (crossE (P 0) (P 2) ⊗ crossE (P 1) (P 3)) tt
+four_crosses d e f h = ring (coordinates (d ∷ e ∷ f ∷ h ∷ [])) (S.cross (P 0) (P 1) ⊗ S.cross (P 2) (P 3) ⊕ S.cross (P 0) (P 3) ⊗ S.cross (P 1) (P 2)) (S.cross (P 0) (P 2) ⊗ S.cross (P 1) (P 3)) tt
 
 pub two_crosses : (a b e f : Spot) → cross a e *ℤ cross b f ≡ cross a f *ℤ cross b e +ℤ cross a b *ℤ cross e f
-two_crosses a b e f = ring (coordinates (a ∷ b ∷ e ∷ f ∷ [])) (crossE (P 0) (P 2) ⊗ crossE (P 1) (P 3)) (crossE (P 0) (P 3) ⊗ crossE (P 1) (P 2) ⊕ crossE (P 0) (P 1) ⊗ crossE (P 2) (P 3)) tt
+two_crosses a b e f = ring (coordinates (a ∷ b ∷ e ∷ f ∷ [])) (S.cross (P 0) (P 2) ⊗ S.cross (P 1) (P 3)) (S.cross (P 0) (P 3) ⊗ S.cross (P 1) (P 2) ⊕ S.cross (P 0) (P 1) ⊗ S.cross (P 2) (P 3)) tt
 
 -- ---- e and f are left of d
 -- f is left of e, and h left of f and on or left of d: then h is left of e
@@ -118,6 +94,6 @@ no_way_back g d e f ge gf ef df de = omega (arith, linear, two_crosses g d e f, 
 pub no_direction : (d e t : Spot) → pos 0 <ℤ cross d e → cross d t ≡ pos 0 → cross e t ≡ pos 0 → (t.x ≡ pos 0) × (t.y ≡ pos 0)
 no_direction d e t de dt et =
     let xs = coordinates (d ∷ e ∷ t ∷ []) in (
-      eq_from xs (crossE (P 0) (P 1)) (neg (P 0).x ⊗ crossE (P 1) (P 2) ⊕ (P 1).x ⊗ crossE (P 0) (P 2)) (P 2).x zero tt de (search zeros),
-      eq_from xs (crossE (P 0) (P 1)) (neg (P 0).y ⊗ crossE (P 1) (P 2) ⊕ (P 1).y ⊗ crossE (P 0) (P 2)) (P 2).y zero tt de (search zeros),
+      eq_from xs (S.cross (P 0) (P 1)) (neg (P 0).x ⊗ S.cross (P 1) (P 2) ⊕ (P 1).x ⊗ S.cross (P 0) (P 2)) (P 2).x zero tt de (search zeros),
+      eq_from xs (S.cross (P 0) (P 1)) (neg (P 0).y ⊗ S.cross (P 1) (P 2) ⊕ (P 1).y ⊗ S.cross (P 0) (P 2)) (P 2).y zero tt de (search zeros),
     )

@@ -6,9 +6,8 @@ use Rattle.plan_exact.specs.Vectors.{Vector}
 use Rattle.plan_spec.specs.Segment.{Segment}
 use Rattle.plan_spec.specs.Polygon.{Inside, OnOrLeft, edges, edges_to}
 use Rattle.plan_grid.specs.declared.spot.Spot.{Spot}
-use Rattle.plan_grid.specs.Spot.{spot_seen, edge_seen}
-use Rattle.plan_convex.specs.Convex.{spots_seen}
-use Rattle.plan_convex.proofs.Least.{corner}
+use Rattle.plan_grid.specs.Spot.{spot_seen, edge_seen, spots_seen}
+use Rattle.plan_grid.proofs.Spots.{corner}
 
 -- the edge of that number, as the code reads it
 abbrev pub edge_at : List Spot → ℕ → Segment

@@ -3,17 +3,13 @@ use Rattle.std.proofs.Common.{◌≡◌, pos, ◌≤◌, ◌<ℤ◌, List, [], �
 use Rattle.std.proofs.lemmas.List.{length-map}
 use Rattle.std.proofs.lemmas.List.Elements.{All-map, All-weaker, All-contains}
 use Rattle.plan_exact.specs.Vectors.{Vector}
-use Rattle.plan_exact.specs.Formal as F
-use Rattle.plan_exact.proofs.Ring.{ring}
 use Rattle.plan_spec.specs.Vector.{turn}
 use Rattle.plan_spec.specs.Polygon.{IsConvex, Inside}
 use Rattle.plan_plane.proofs.Polygon.Fan as fan
 use Rattle.plan_grid.specs.declared.spot.Spot.{Spot}
-use Rattle.plan_grid.specs.Spot.{spot_seen}
-use Rattle.plan_convex.specs.Convex.{spots_seen}
-use Rattle.plan_convex.specs.Plane.{way, cross}
-use Rattle.plan_convex.proofs.Crosses.{coordinates, P, wayE, crossE}
-use Rattle.plan_convex.proofs.Triangle.{InTriangle, three_sides, spotE}
+use Rattle.plan_grid.specs.Spot.{spot_seen, spots_seen, way, cross}
+use Rattle.plan_grid.proofs.Turns.{turn_cross}
+use Rattle.plan_convex.proofs.Triangle.{InTriangle, three_sides}
 
 -- a triangle of spots with the property H that holds p
 pub record HoldingTriangle (H : Spot → Type 0) (p : Vector) : Type 0 where
@@ -26,9 +22,6 @@ pub record HoldingTriangle (H : Spot → Type 0) (p : Vector) : Type 0 where
   pub turns : pos 0 <ℤ cross (way a b) (way a c)
   pub holds : InTriangle a b c p
 
-turn_is : (a b c : Spot) → turn (spot_seen a) (spot_seen b) (spot_seen c) ≡ cross (way a b) (way a c)
-turn_is a b c = ring (coordinates (a ∷ b ∷ c ∷ [])) (F.det (spotE (P 0)) (spotE (P 1)) (spotE (P 2))) (crossE (wayE (P 0) (P 1)) (wayE (P 0) (P 2))) tt
-
 -- the vector of a spot with the property
 abbrev Has : (Spot → Type 0) → Vector → Type 0
 Has H v = (s : Spot) × H s × (spot_seen s ≡ v)
@@ -39,7 +32,7 @@ of_spots H p a b c x y z turns inside =
     let first = subst (λ (v : Vector). Inside (v ∷ b ∷ c ∷ []) p) (sym x.2) inside in
     let second = subst (λ (v : Vector). Inside (spot_seen x.0 ∷ v ∷ c ∷ []) p) (sym y.2) first in
     let held = subst (λ (v : Vector). Inside (spot_seen x.0 ∷ spot_seen y.0 ∷ v ∷ []) p) (sym z.2) second in
-    record { a = x.0; b = y.0; c = z.0; has_a = x.1; has_b = y.1; has_c = z.1; turns = rw (← turn_is x.0 y.0 z.0) here; holds = three_sides x.0 y.0 z.0 p held }
+    record { a = x.0; b = y.0; c = z.0; has_a = x.1; has_b = y.1; has_c = z.1; turns = rw (← turn_cross x.0 y.0 z.0) here; holds = three_sides x.0 y.0 z.0 p held }
 
 pub held_by_triangle : (H : Spot → Type 0) (p : Vector) (vs : List Spot) → 3 ≤ length vs → IsConvex (spots_seen vs) → All H vs → Inside (spots_seen vs) p → HoldingTriangle H p
 held_by_triangle H p vs long convex hs inside =

@@ -3,7 +3,6 @@ pub mod Corners
 pub mod Crosses
 pub mod Edges
 pub mod Fan
-pub mod Least
 pub mod Merge
 pub mod MergeEnd
 pub mod MergeStep

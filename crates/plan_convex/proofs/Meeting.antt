@@ -9,8 +9,7 @@ use Rattle.plan_spec.specs.Polygon.{IsConvex, edges}
 use Rattle.plan_plane.proofs.Polygon.Meeting.{MeetsSegment, no_meeting_right_of_edge, no_meeting_left_of_line, meets_segment_decides}
 use Rattle.plan_grid.specs.declared.spot.Spot.{Spot}
 use Rattle.plan_grid.specs.Bounds.{IsInRange}
-use Rattle.plan_grid.specs.Spot.{spot_seen}
-use Rattle.plan_convex.specs.Convex.{spots_seen}
+use Rattle.plan_grid.specs.Spot.{spot_seen, spots_seen}
 use Rattle.plan_convex.specs.Meets.{AreRight}
 
 -- strictly left of the line from p to q, or strictly right

@@ -8,14 +8,15 @@ use Rattle.plan_exact.proofs.Ring.{ring}
 use Rattle.plan_spec.specs.Vector.{minus}
 use Rattle.plan_spec.specs.Polygon.{Inside}
 use Rattle.plan_grid.specs.declared.spot.Spot.{Spot}
-use Rattle.plan_grid.specs.Spot.{spot_seen, IsWithin}
+use Rattle.plan_grid.specs.Spot.{spot_seen, IsWithin, spots_seen, plus, way, cross}
 use Rattle.plan_convex.specs.declared.walk.Walk.{Walk}
-use Rattle.plan_convex.specs.Convex.{spots_seen}
-use Rattle.plan_convex.specs.Plane.{plus, way, cross}
 use Rattle.plan_convex.specs.Walk.{corners, edge, InSum, IsStart}
 use Rattle.plan_convex.proofs.Chains.{AllSides, IsSide}
-use Rattle.plan_convex.proofs.Corners.{IsSame, Borders, IsCorner}
-use Rattle.plan_convex.proofs.Crosses.{spot_path, coordinates, P, wayE, plusE, cross_self}
+use Rattle.plan_convex.proofs.Corners.{Borders, IsCorner}
+use Rattle.plan_grid.proofs.Spots.{spot_path}
+use Rattle.plan_grid.proofs.FormalSpots as S
+use Rattle.plan_grid.proofs.FormalSpots.{coordinates, P}
+use Rattle.plan_convex.proofs.Crosses.{cross_self}
 use Rattle.plan_convex.proofs.Sums.{IsSum, borders_sum}
 use Rattle.plan_convex.proofs.Triangle.{inside_corner}
 use Rattle.plan_convex.proofs.Walks.{baseline, behind, Round, round_start, EndsFalling, IsAhead, ahead_at_start}
@@ -72,7 +73,7 @@ pub record IsMerge (s t a b : Walk) (vs : List Spot) : Type 0 where
   pub sides : AllSides (IsSide (Sum s t)) vs (vertex a b)
   pub extremes : All (IsCorner (Sum s t)) vs
   pub sums : All (IsSum (corners s) (corners t)) vs
-  pub distinct : AllPairs (λ u v. ¬ (IsSame u v)) vs
+  pub distinct : AllPairs (λ u v. ¬ (u ≡ v)) vs
   pub bounded : All (IsWithin 2046) vs
   pub begins : (vs ≡ [] → vertex a b ≡ vertex s t) × BeginsAt (vertex s t) vs
   pub at_most : length vs + (a.edges_left + b.edges_left) ≤ 6
@@ -81,7 +82,7 @@ pub record IsMerge (s t a b : Walk) (vs : List Spot) : Type 0 where
 -- ---- what a pair of walks has
 pub sum_of : (s t a b : Walk) → Round s a → Round t b → IsSum (corners s) (corners t) (vertex a b)
 sum_of s t a b ra rb =
-    let rest : way a.at (vertex a b) ≡ b.at = spot_path (ring (coordinates (a.at ∷ b.at ∷ [])) (wayE (P 0) (plusE (P 0) (P 1))).x (P 1).x tt) (ring (coordinates (a.at ∷ b.at ∷ [])) (wayE (P 0) (plusE (P 0) (P 1))).y (P 1).y tt) in
+    let rest : way a.at (vertex a b) ≡ b.at = spot_path (ring (coordinates (a.at ∷ b.at ∷ [])) (S.way (P 0) (S.plus (P 0) (P 1))).x (P 1).x tt) (ring (coordinates (a.at ∷ b.at ∷ [])) (S.way (P 0) (S.plus (P 0) (P 1))).y (P 1).y tt) in
     record {
       part = a.at;
       first = ra.back (spot_seen a.at) (inside_corner a.at a.next a.previous ra.turns);

@@ -6,15 +6,15 @@ use Rattle.plan_spec.specs.Vector.{IsPoint}
 use Rattle.plan_spec.specs.Polygon.{Inside, OnOrLeft}
 use Rattle.plan_grid.specs.declared.spot.Spot.{Spot}
 use Rattle.plan_convex.specs.declared.walk.Walk.{Walk}
-use Rattle.plan_convex.specs.Convex.{spots_seen, IsPolygon}
-use Rattle.plan_convex.specs.Plane.{plus}
+use Rattle.plan_grid.specs.Spot.{spots_seen, plus}
+use Rattle.plan_convex.specs.Convex.{IsPolygon}
 use Rattle.plan_convex.specs.Walk.{corners, IsStart}
 use Rattle.plan_convex.proofs.Chains.{AllSides, IsSide, edges_from_sides, convex_from_sides}
 use Rattle.plan_convex.proofs.Corners.{Borders, IsCorner}
 use Rattle.plan_convex.proofs.Fan.{held_by_triangle}
 use Rattle.plan_convex.proofs.Merge.{vertex, Sum, IsMerge, borders_at, weakly}
 use Rattle.plan_convex.proofs.Sums.{IsSum, sum_holds}
-use Rattle.plan_convex.proofs.Triangle.{beside_turn}
+use Rattle.plan_grid.proofs.Turns.{turn_beside}
 use Rattle.plan_convex.proofs.Walks.{baseline, round_start, ahead_at_start, home_again}
 
 -- the polygon of these vertices, and what it holds
@@ -36,7 +36,7 @@ closed s t a b u us hs ht m none =
       polygon = record { at_least_three = long; at_most_six = omega arith; convex = convex; bounded = m.bounded };
       holds = λ p is_point. (
         λ inside. sum_holds s.at s.next s.previous t.at t.next t.previous p is_point (held_by_triangle (IsSum (corners s) (corners t)) p (u ∷ us) long convex m.sums inside),
-        λ i. edges_from_sides (IsSide S) (IsCorner S) (OnOrLeft p) (λ v w side cv cw. subst (λ k. pos 0 ≤ℤ k) (beside_turn v w p) (side.borders p is_point i)) (u ∷ us) u m.extremes (All-head (IsCorner S) u us m.extremes) sides,
+        λ i. edges_from_sides (IsSide S) (IsCorner S) (OnOrLeft p) (λ v w side cv cw. subst (λ k. pos 0 ≤ℤ k) (turn_beside v w p) (side.borders p is_point i)) (u ∷ us) u m.extremes (All-head (IsCorner S) u us m.extremes) sides,
       );
     }
 

@@ -11,13 +11,14 @@ use Rattle.plan_exact.proofs.Laws.{linear}
 use Rattle.plan_exact.proofs.Ring.{ring}
 use Rattle.plan_exact.proofs.Signs.{sign_of}
 use Rattle.plan_grid.specs.declared.spot.Spot.{Spot}
-use Rattle.plan_grid.specs.Spot.{spot_seen, IsWithin}
+use Rattle.plan_grid.specs.Spot.{spot_seen, IsWithin, plus, way, cross}
 use Rattle.plan_convex.specs.declared.walk.Walk.{Walk}
-use Rattle.plan_convex.specs.Plane.{plus, way, cross}
 use Rattle.plan_convex.specs.Walk.{corners, edge, IsStep, first, second, both}
 use Rattle.plan_convex.proofs.Chains.{sides_push, IsSide}
-use Rattle.plan_convex.proofs.Corners.{IsSame, Borders, IsCorner, apart_of, borders_spot, extreme_between}
-use Rattle.plan_convex.proofs.Crosses.{spot_path, coordinates, P, wayE, crossE, cross_swapped, fall_before_rise, no_way_back}
+use Rattle.plan_convex.proofs.Corners.{Borders, IsCorner, apart_of, borders_spot, extreme_between}
+use Rattle.plan_grid.proofs.FormalSpots as S
+use Rattle.plan_grid.proofs.FormalSpots.{coordinates, P}
+use Rattle.plan_convex.proofs.Crosses.{cross_swapped, fall_before_rise, no_way_back}
 use Rattle.plan_convex.proofs.Sums.{IsSum, sum_has}
 use Rattle.plan_convex.proofs.Walks.{baseline, Round, rises_at_home, round_taken, keeps_rising, begins_falling, goes_on_falling, ahead_after, left_before}
 use Rattle.plan_convex.proofs.Merge.{vertex, stride, Sum, height, Rising, IsLower, IsPassed, Course, rising, falling, BeginsAt, IsMerge, borders_at, weakly, sum_of}
@@ -58,10 +59,10 @@ second_may_go s t a b vs m more bend = by b.edges_left refl
     by (suc n) e = omega arith
 
 height_way : (p q : Spot) → height q ≡ height p +ℤ cross baseline (way p q)
-height_way p q = ring (coordinates (p ∷ q ∷ baseline ∷ [])) (crossE (P 2) (P 1)) (crossE (P 2) (P 0) ⊕ crossE (P 2) (wayE (P 0) (P 1))) tt
+height_way p q = ring (coordinates (p ∷ q ∷ baseline ∷ [])) (S.cross (P 2) (P 1)) (S.cross (P 2) (P 0) ⊕ S.cross (P 2) (S.way (P 0) (P 1))) tt
 
-same_height : (p q : Spot) → IsSame p q → height p ≡ height q
-same_height p q s = let e = s.0 in let f = s.1 in omega (arith, linear)
+same_height : (p q : Spot) → p ≡ q → height p ≡ height q
+same_height p q e = ap height e
 
 begins_push : (v w : Spot) (vs : List Spot) → (vs ≡ [] → v ≡ w) → BeginsAt w vs → BeginsAt w (vs ++ v ∷ [])
 begins_push v w [] h k = h refl
@@ -107,16 +108,16 @@ module _ (s t a b a' b' : Walk) (vs : List Spot) (m : IsMerge s t a b vs) (step 
   has_next = sum_has (corners s) (corners t) (vertex a' b') (sum_of s t a' b' first_round' second_round')
 
   -- the vertex is a new one
-  is_new : All (λ u. ¬ (IsSame u (vertex a b))) vs
+  is_new : All (λ u. ¬ (u ≡ vertex a b)) vs
   is_new = by m.course
     where
-      by : Course (Sum s t) m.direction a b vs → All (λ u. ¬ (IsSame u (vertex a b))) vs
-      by (rising ka kb level all) = All-weaker (IsLower (Sum s t) (vertex a b)) (λ u. ¬ (IsSame u (vertex a b))) (λ u h same. let e = same_height u (vertex a b) same in let l = h.0 in omega (arith, linear)) vs all
-      by (falling ea eb falls all) = All-weaker (IsPassed (Sum s t) (vertex a b)) (λ u. ¬ (IsSame u (vertex a b))) other vs all
+      by : Course (Sum s t) m.direction a b vs → All (λ u. ¬ (u ≡ vertex a b)) vs
+      by (rising ka kb level all) = All-weaker (IsLower (Sum s t) (vertex a b)) (λ u. ¬ (u ≡ vertex a b)) (λ u h same. let e = same_height u (vertex a b) same in let l = h.0 in omega (arith, linear)) vs all
+      by (falling ea eb falls all) = All-weaker (IsPassed (Sum s t) (vertex a b)) (λ u. ¬ (u ≡ vertex a b)) other vs all
         where
-          other : (u : Spot) → IsPassed (Sum s t) (vertex a b) u → ¬ (IsSame u (vertex a b))
+          other : (u : Spot) → IsPassed (Sum s t) (vertex a b) u → ¬ (u ≡ vertex a b)
           other u (inl h) same = let e = same_height u (vertex a b) same in omega (arith, linear)
-          other u (inr r) same = ends_once (subst (Rising (Sum s t)) (spot_path same.0 same.1) r)
+          other u (inr r) same = ends_once (subst (Rising (Sum s t)) same r)
             where
               ends_once : Rising (Sum s t) (vertex a b) → ⊥
               ends_once r =
@@ -178,7 +179,7 @@ module _ (s t a b a' b' : Walk) (vs : List Spot) (m : IsMerge s t a b vs) (step 
         sides = sides_push (IsSide (Sum s t)) vs v v' m.sides (record { borders = borders; apart = apart_of m.direction v v' side_is.left });
         extremes = All-push (IsCorner (Sum s t)) vs v m.extremes (record { belongs = has_vertex; extreme = extreme_between (Sum s t) v m.direction e borders_before borders side_is.left });
         sums = All-push (IsSum (corners s) (corners t)) vs v m.sums (sum_of s t a b m.first_round m.second_round);
-        distinct = all_pairs_push (λ u w. ¬ (IsSame u w)) vs v m.distinct is_new;
+        distinct = all_pairs_push (λ u w. ¬ (u ≡ w)) vs v m.distinct is_new;
         bounded = All-push (IsWithin 2046) vs v m.bounded (within_sum a.at b.at m.first_round.at_bounded m.second_round.at_bounded);
         begins = (λ none. absurd (not_empty v vs none), begins_push v (vertex s t) vs m.begins.0 m.begins.1);
         at_most = omega arith;

@@ -4,9 +4,12 @@ use Rattle.plan_exact.proofs.Laws.{linear}
 use Rattle.plan_exact.proofs.Ring.{ring}
 use Rattle.plan_grid.specs.declared.spot.Spot.{Spot}
 use Rattle.plan_convex.specs.declared.walk.Walk.{Walk}
-use Rattle.plan_convex.specs.Plane.{plus, way, cross}
+use Rattle.plan_grid.specs.Spot.{plus, way, cross}
 use Rattle.plan_convex.specs.Walk.{edge, IsOnward, IsStep, first, second, both}
-use Rattle.plan_convex.proofs.Crosses.{spot_path, coordinates, P, wayE, plusE, cross_self, cross_swapped, cross_plus, cross_plus_right, left_of_first, left_of_aligned}
+use Rattle.plan_grid.proofs.Spots.{spot_path}
+use Rattle.plan_grid.proofs.FormalSpots as S
+use Rattle.plan_grid.proofs.FormalSpots.{coordinates, P}
+use Rattle.plan_convex.proofs.Crosses.{cross_self, cross_swapped, cross_plus, cross_plus_right, left_of_first, left_of_aligned}
 use Rattle.plan_convex.proofs.Walks.{baseline, behind, Round, EndsFalling, IsAhead, IsTaken, stays, passes, not_level_along}
 use Rattle.plan_convex.proofs.Merge.{vertex, stride}
 
@@ -21,22 +24,22 @@ pub record IsAlong (d e : Spot) (a b a' b' : Walk) : Type 0 where
 way_of_sums : (p q s t : Spot) → way (plus p s) (plus q t) ≡ plus (way p q) (way s t)
 way_of_sums p q s t =
     let xs = coordinates (p ∷ q ∷ s ∷ t ∷ []) in
-    let l = wayE (plusE (P 0) (P 2)) (plusE (P 1) (P 3)) in
-    let r = plusE (wayE (P 0) (P 1)) (wayE (P 2) (P 3)) in
+    let l = S.way (S.plus (P 0) (P 2)) (S.plus (P 1) (P 3)) in
+    let r = S.plus (S.way (P 0) (P 1)) (S.way (P 2) (P 3)) in
     spot_path (ring xs l.x r.x tt) (ring xs l.y r.y tt)
 
 stay_first : (p s t : Spot) → way (plus p s) (plus p t) ≡ way s t
 stay_first p s t =
     let xs = coordinates (p ∷ s ∷ t ∷ []) in
-    let l = wayE (plusE (P 0) (P 1)) (plusE (P 0) (P 2)) in
-    let r = wayE (P 1) (P 2) in
+    let l = S.way (S.plus (P 0) (P 1)) (S.plus (P 0) (P 2)) in
+    let r = S.way (P 1) (P 2) in
     spot_path (ring xs l.x r.x tt) (ring xs l.y r.y tt)
 
 stay_second : (p q s : Spot) → way (plus p s) (plus q s) ≡ way p q
 stay_second p q s =
     let xs = coordinates (p ∷ q ∷ s ∷ []) in
-    let l = wayE (plusE (P 0) (P 2)) (plusE (P 1) (P 2)) in
-    let r = wayE (P 0) (P 1) in
+    let l = S.way (S.plus (P 0) (P 2)) (S.plus (P 1) (P 2)) in
+    let r = S.way (P 0) (P 1) in
     spot_path (ring xs l.x r.x tt) (ring xs l.y r.y tt)
 
 -- an edge that is walked where all edges fall

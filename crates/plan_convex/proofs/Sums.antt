@@ -11,14 +11,14 @@ use Rattle.plan_exact.proofs.Signs.{signs, mul_pos}
 use Rattle.plan_spec.specs.Vector.{IsPoint, turn, minus}
 use Rattle.plan_spec.specs.Polygon.{Inside}
 use Rattle.plan_grid.specs.declared.spot.Spot.{Spot}
-use Rattle.plan_grid.specs.Spot.{spot_seen}
-use Rattle.plan_convex.specs.Convex.{spots_seen}
-use Rattle.plan_convex.specs.Plane.{plus, way, cross}
+use Rattle.plan_grid.specs.Spot.{spot_seen, spots_seen, plus, way, cross}
 use Rattle.plan_convex.specs.Walk.{InSum}
 use Rattle.plan_convex.proofs.Corners.{Borders}
-use Rattle.plan_convex.proofs.Crosses.{coordinates, Pair, P, plusE, wayE, crossE}
+use Rattle.plan_grid.proofs.FormalSpots as S
+use Rattle.plan_grid.proofs.FormalSpots.{coordinates, Pair, P, places, Z}
 use Rattle.plan_convex.proofs.Fan.{HoldingTriangle}
-use Rattle.plan_convex.proofs.Triangle.{InTriangle, three_sides, inside_three, beside, places, spotE, besideE, Z, beside_in_triangle}
+use Rattle.plan_convex.proofs.Triangle.{InTriangle, three_sides, inside_three, beside_in_triangle}
+use Rattle.plan_grid.proofs.Turns.{beside}
 
 -- v is the sum of a spot of A and a spot of B
 pub record IsSum (A B : List Spot) (v : Spot) : Type 0 where
@@ -32,7 +32,7 @@ minusE z p = record { x = z.x ⊗ p.w ⊖ p.x ⊗ z.w; y = z.y ⊗ p.w ⊖ p.y �
 pub sum_has : (A B : List Spot) (v : Spot) → IsSum A B v → InSum (spots_seen A) (spots_seen B) (spot_seen v)
 sum_has A B v h =
     let e : minus (spot_seen v) (spot_seen h.part) ≡ spot_seen (way h.part v) =
-    ring_vectors (coordinates (h.part ∷ v ∷ [])) (minusE (spotE (P 1)) (spotE (P 0))) (spotE (wayE (P 0) (P 1))) tt in
+    ring_vectors (coordinates (h.part ∷ v ∷ [])) (minusE (S.seen (P 1)) (S.seen (P 0))) (S.seen (S.way (P 0) (P 1))) tt in
     (spot_seen h.part, omega (arith, linear), h.first, subst (Inside (spots_seen B)) (sym e) h.second)
 
 -- ---- combinations
@@ -45,7 +45,7 @@ weighted a b c p u v w =
     record { x = j *ℤ u.x +ℤ k *ℤ v.x +ℤ l *ℤ w.x; y = j *ℤ u.y +ℤ k *ℤ v.y +ℤ l *ℤ w.y; w = j +ℤ k +ℤ l }
 
 abbrev weightsE : F.Vec → F.Vec
-weightsE p = record { x = F.det (spotE (P 1)) (spotE (P 2)) p; y = F.det (spotE (P 2)) (spotE (P 0)) p; w = F.det (spotE (P 0)) (spotE (P 1)) p }
+weightsE p = record { x = F.det (S.seen (P 1)) (S.seen (P 2)) p; y = F.det (S.seen (P 2)) (S.seen (P 0)) p; w = F.det (S.seen (P 0)) (S.seen (P 1)) p }
 
 abbrev weightedE : F.Vec → Pair → Pair → Pair → F.Vec
 weightedE p u v w =
@@ -57,25 +57,25 @@ module _ (a b c : Spot) (p : Vector) (turns : pos 0 <ℤ cross (way a b) (way a 
   combined_left : (s t u v w : Spot) → pos 0 ≤ℤ turn (spot_seen s) (spot_seen t) (spot_seen u) → pos 0 ≤ℤ turn (spot_seen s) (spot_seen t) (spot_seen v) → pos 0 ≤ℤ turn (spot_seen s) (spot_seen t) (spot_seen w) → pos 0 ≤ℤ turn (spot_seen s) (spot_seen t) (weighted a b c p u v w)
   combined_left s t u v w hu hv hw =
       let first = holds.first in let second = holds.second in let third = holds.third in
-      let l = F.det (spotE (P 3)) (spotE (P 4)) in
+      let l = F.det (S.seen (P 3)) (S.seen (P 4)) in
       let k = weightsE (Z 8) in
       le_from (places (a ∷ b ∷ c ∷ s ∷ t ∷ u ∷ v ∷ w ∷ []) p) (con (pos 1))
-      (k.x ⊗ l (spotE (P 5)) ⊕ k.y ⊗ l (spotE (P 6)) ⊕ k.w ⊗ l (spotE (P 7)))
+      (k.x ⊗ l (S.seen (P 5)) ⊕ k.y ⊗ l (S.seen (P 6)) ⊕ k.w ⊗ l (S.seen (P 7)))
       F.zero (l (weightedE (Z 8) (P 5) (P 6) (P 7))) tt (search signs) (search signs)
 
   -- the rest of p, where that combination is taken away, is one of what is left of a, b, c
   rest_left : (s t u v w : Spot) → pos 0 ≤ℤ turn (spot_seen s) (spot_seen t) (spot_seen (way u a)) → pos 0 ≤ℤ turn (spot_seen s) (spot_seen t) (spot_seen (way v b)) → pos 0 ≤ℤ turn (spot_seen s) (spot_seen t) (spot_seen (way w c)) → pos 0 ≤ℤ turn (spot_seen s) (spot_seen t) (minus p (weighted a b c p u v w))
   rest_left s t u v w hu hv hw =
       let first = holds.first in let second = holds.second in let third = holds.third in
-      let l = F.det (spotE (P 3)) (spotE (P 4)) in
+      let l = F.det (S.seen (P 3)) (S.seen (P 4)) in
       let k = weightsE (Z 8) in
       le_from (places (a ∷ b ∷ c ∷ s ∷ t ∷ u ∷ v ∷ w ∷ []) p) (con (pos 1))
-      ((Z 8).w ⊗ (k.x ⊗ l (spotE (wayE (P 5) (P 0))) ⊕ k.y ⊗ l (spotE (wayE (P 6) (P 1))) ⊕ k.w ⊗ l (spotE (wayE (P 7) (P 2)))))
+      ((Z 8).w ⊗ (k.x ⊗ l (S.seen (S.way (P 5) (P 0))) ⊕ k.y ⊗ l (S.seen (S.way (P 6) (P 1))) ⊕ k.w ⊗ l (S.seen (S.way (P 7) (P 2)))))
       F.zero (l (minusE (Z 8) (weightedE (Z 8) (P 5) (P 6) (P 7)))) tt (search signs) (search signs)
 
   combined_point : (u v w : Spot) → IsPoint (weighted a b c p u v w)
   combined_point u v w =
-      let e = ring (places (a ∷ b ∷ c ∷ []) p) (crossE (wayE (P 0) (P 1)) (wayE (P 0) (P 2)) ⊗ (Z 3).w) (weightedE (Z 3) (P 0) (P 1) (P 2)).w tt in
+      let e = ring (places (a ∷ b ∷ c ∷ []) p) (S.cross (S.way (P 0) (P 1)) (S.way (P 0) (P 2)) ⊗ (Z 3).w) (weightedE (Z 3) (P 0) (P 1) (P 2)).w tt in
       omega (arith, linear, e, mul_pos turns is_point)
 
 pub sum_holds : (a0 a1 a2 b0 b1 b2 : Spot) (p : Vector) → IsPoint p → HoldingTriangle (IsSum (a0 ∷ a1 ∷ a2 ∷ []) (b0 ∷ b1 ∷ b2 ∷ [])) p → InSum (spots_seen (a0 ∷ a1 ∷ a2 ∷ [])) (spots_seen (b0 ∷ b1 ∷ b2 ∷ [])) p
@@ -100,8 +100,8 @@ beside_sum : (v w d : Spot) (x z : Vector) → IsPoint x → IsPoint z → pos 0
 beside_sum v w d x z hx hz first second =
     let zE : F.Vec = record { x = var 9; y = var 10; w = var 11 } in
     le_from (coordinates (v ∷ w ∷ d ∷ []) ++ x.x ∷ x.y ∷ x.w ∷ z.x ∷ z.y ∷ z.w ∷ []) zE.w
-    ((Z 3).w ⊗ besideE (P 0) (P 2) zE ⊕ besideE (P 1) (P 2) (minusE (Z 3) zE))
-    F.zero (besideE (plusE (P 0) (P 1)) (P 2) (Z 3)) tt hz (search signs)
+    ((Z 3).w ⊗ S.beside (P 0) (P 2) zE ⊕ S.beside (P 1) (P 2) (minusE (Z 3) zE))
+    F.zero (S.beside (S.plus (P 0) (P 1)) (P 2) (Z 3)) tt hz (search signs)
 
 -- the line in the direction d through the sum of two corners, where both triangles are on or left of it
 pub borders_sum : (p q r s t u d : Spot) → pos 0 <ℤ cross (way p q) (way p r) → pos 0 <ℤ cross (way s t) (way s u) → pos 0 ≤ℤ cross d (way p q) → pos 0 ≤ℤ cross d (way p r) → pos 0 ≤ℤ cross d (way s t) → pos 0 ≤ℤ cross d (way s u) → Borders (InSum (spots_seen (p ∷ q ∷ r ∷ [])) (spots_seen (s ∷ t ∷ u ∷ []))) (plus p s) d

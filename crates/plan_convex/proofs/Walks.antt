@@ -10,14 +10,15 @@ use Rattle.plan_exact.proofs.Signs.{sign_of, mul_zero}
 use Rattle.plan_spec.specs.Vector.{Before}
 use Rattle.plan_spec.specs.Polygon.{Inside}
 use Rattle.plan_grid.specs.declared.spot.Spot.{Spot}
-use Rattle.plan_grid.specs.Spot.{spot_seen, IsWithin}
+use Rattle.plan_grid.specs.Spot.{spot_seen, IsWithin, spots_seen, way, cross}
 use Rattle.plan_convex.specs.declared.walk.Walk.{Walk}
-use Rattle.plan_convex.specs.Convex.{spots_seen}
-use Rattle.plan_convex.specs.Plane.{way, cross}
 use Rattle.plan_convex.specs.Walk.{corners, edge, IsStart, IsOnward}
-use Rattle.plan_convex.proofs.Least.{corners_bounded}
-use Rattle.plan_convex.proofs.Triangle.{inside_turned, turn_cross}
-use Rattle.plan_convex.proofs.Crosses.{coordinates, P, wayE, crossE, cross_swapped, cross_way_back, cross_way_on, right_of_aligned, left_of_aligned, rise_before_fall}
+use Rattle.plan_grid.proofs.Triangles.{corners_within}
+use Rattle.plan_convex.proofs.Triangle.{inside_turned}
+use Rattle.plan_grid.proofs.Turns.{turn_cross}
+use Rattle.plan_grid.proofs.FormalSpots as S
+use Rattle.plan_grid.proofs.FormalSpots.{coordinates, P}
+use Rattle.plan_convex.proofs.Crosses.{cross_swapped, cross_way_back, cross_way_on, right_of_aligned, left_of_aligned, rise_before_fall}
 
 -- a direction that tells any two spots of small coordinates apart: as seen from the other, the later one is to the left of it
 abbrev pub baseline : Spot
@@ -66,7 +67,7 @@ placed_onward g home (suc (suc zero)) p q r h = h
 placed_onward g home (suc (suc (suc n))) p q r h = absurd h
 
 turned_corner : (p q r : Spot) → cross (way p q) (way p r) ≡ cross (way q r) (way q p)
-turned_corner p q r = ring (coordinates (p ∷ q ∷ r ∷ [])) (crossE (wayE (P 0) (P 1)) (wayE (P 0) (P 2))) (crossE (wayE (P 1) (P 2)) (wayE (P 1) (P 0))) tt
+turned_corner p q r = ring (coordinates (p ∷ q ∷ r ∷ [])) (S.cross (S.way (P 0) (P 1)) (S.way (P 0) (P 2))) (S.cross (S.way (P 1) (P 2)) (S.way (P 1) (P 0))) tt
 
 round_gone : (t w : Walk) (n : ℕ) → w.edges_left ≡ suc n → Round t w → Round t (gone w n)
 round_gone t w n e h = record {
@@ -96,16 +97,18 @@ later_rises p q hp hq later = by later
 
 pub round_start : (t : Walk) → IsStart t → Round t t
 round_start t h =
-    let k = corners_bounded t.at t.next t.previous h.triangle in
+    let k = corners_within t.at t.next t.previous h.triangle.triangle.bounded in
+    let next_later = h.least 0 (spot_seen t.next) (omega arith) in
+    let previous_later = h.least 1 (spot_seen t.next) (omega arith) in
     record {
-      turns = subst (λ k. pos 0 <ℤ k) (turn_cross t.at t.next t.previous) h.triangle.0;
+      turns = subst (λ k. pos 0 <ℤ k) (turn_cross t.at t.next t.previous) h.triangle.left;
       at_bounded = k.0;
       next_bounded = k.1;
       previous_bounded = k.2;
       same = λ z i. i;
       back = λ z i. i;
       placed = subst (λ k. IsPlaced baseline t.at k t.at t.next t.previous) (sym h.edges)
-          (record { is_home = refl; next = later_rises t.at t.next k.0 k.1 h.next_later; previous = later_rises t.at t.previous k.0 k.2 h.previous_later });
+          (record { is_home = refl; next = later_rises t.at t.next k.0 k.1 next_later; previous = later_rises t.at t.previous k.0 k.2 previous_later });
     }
 
 -- ---- what rises and what falls

@@ -1,4 +1,3 @@
 pub mod Convex
 pub mod Meets
-pub mod Plane
 pub mod Walk

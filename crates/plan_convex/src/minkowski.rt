@@ -2,13 +2,13 @@ ghost use Rattle.std.specs.Prelude.{◌≡◌, ◌↔◌, map};
 ghost use Rattle.plan_exact.specs.Vectors.{Vector};
 ghost use Rattle.plan_spec.specs.Vector.{IsPoint, minus};
 ghost use Rattle.plan_spec.specs.Polygon.{Inside};
-ghost use Rattle.plan_convex.specs.Convex.{spots_seen};
-ghost use Rattle.plan_convex.specs.Plane.{opposite};
-ghost use Rattle.plan_convex.specs.Walk.{IsTriangle, corners, InSum, IsStart};
+ghost use Rattle.plan_grid.specs.Spot.{spots_seen, opposite};
+ghost use Rattle.plan_grid.specs.Triangle.{IsCounterclockwise};
+ghost use Rattle.plan_convex.specs.Walk.{corners, InSum, IsStart};
 
 use crate::convex::Convex;
 use crate::vertices::Vertices;
-use crate::walk::{Walk, opposite, plus, step};
+use crate::walk::{Walk, step};
 use plan_grid::Spot;
 
 /// The Minkowski sum of the obstacle and the reflected robot: the placements at which the robot has a point in common
@@ -17,8 +17,8 @@ use plan_grid::Spot;
 /// The edges of both triangles, merged by direction, are the edges of the sum (de Berg et al., Computational Geometry,
 /// section 13.3).
 pub fn sum(obstacle: [Spot; 3], robot: [Spot; 3]) -> Convex
-    requires obstacle { IsTriangle obstacle }
-    requires robot { IsTriangle robot }
+    requires obstacle { IsCounterclockwise obstacle }
+    requires robot { IsCounterclockwise robot }
     ensures meaning { (p : Vector) → IsPoint p → (Inside (spots_seen result) p
         ↔ ((z : Vector) × IsPoint z × Inside (spots_seen obstacle) z × Inside (spots_seen robot) (minus z p))) }
 {
@@ -30,13 +30,13 @@ pub fn sum(obstacle: [Spot; 3], robot: [Spot; 3]) -> Convex
 
 // The triangle on the other side of the origin.
 fn reflected(triangle: [Spot; 3]) -> [Spot; 3]
-    requires { IsTriangle triangle }
+    requires { IsCounterclockwise triangle }
     ensures { result ≡ map opposite triangle }
 {
     [
-        opposite(triangle[0]),
-        opposite(triangle[1]),
-        opposite(triangle[2]),
+        triangle[0].opposite(),
+        triangle[1].opposite(),
+        triangle[2].opposite(),
     ]
 }
 
@@ -49,7 +49,7 @@ fn merged(mut a: Walk, mut b: Walk) -> Convex
 {
     let mut vertices = Vertices::new();
     while a.edges_left + b.edges_left > 0 {
-        vertices.push(plus(a.at, b.at));
+        vertices.push(a.at.plus(b.at));
         let (next_a, next_b) = step(a, b);
         a = next_a;
         b = next_b;

@@ -1,11 +1,11 @@
 -- Spots in the order by x, then by y, which is total: of two different ones one comes before the other.
-use Rattle.std.proofs.Common.{◌≡◌, ◌⊎◌, inl, inr, ℕ, pos, ◌*ℤ◌, ◌∙◌, sym, ap, List, get_or, arith}
+use Rattle.std.proofs.Common.{◌≡◌, ◌⊎◌, inl, inr, ℕ, pos, ◌*ℤ◌, ◌≤◌, ◌∙◌, sym, ap, List, get_or, arith}
 use Rattle.plan_exact.specs.Sign.{Order, is_less, is_equal, is_greater}
 use Rattle.plan_exact.proofs.Laws.{linear}
 use Rattle.plan_exact.proofs.Signs.{order_of}
 use Rattle.plan_spec.specs.Vector.{Before}
 use Rattle.plan_grid.specs.declared.spot.Spot.{Spot}
-use Rattle.plan_grid.specs.Spot.{spot_seen}
+use Rattle.plan_grid.specs.Spot.{spot_seen, IsWithin}
 
 abbrev pub origin : Spot
 origin = record { x = pos 0; y = pos 0 }
@@ -17,6 +17,9 @@ corner spots i = get_or spots i origin
 -- two spots of the same coordinates are one
 pub spot_path : {p q : Spot} → p.x ≡ q.x → p.y ≡ q.y → p ≡ q
 spot_path e f = λ i. record { x = e i; y = f i }
+
+pub within_more : (k l : ℕ) (s : Spot) → k ≤ l → IsWithin k s → IsWithin l s
+within_more k l s more h = record { x = omega arith; y = omega arith }
 
 pub before_or_after : (p q : Spot) → ¬ (p ≡ q) → Before (spot_seen p) (spot_seen q) ⊎ Before (spot_seen q) (spot_seen p)
 before_or_after p q apart = by (order_of p.x q.x) (order_of p.y q.y)

@@ -4,7 +4,7 @@ use Rattle.plan_spec.specs.Segment.{Segment}
 use Rattle.plan_spec.specs.Polygon.{Inside}
 use Rattle.plan_spec.specs.Frame.{OnOrBeyond}
 use Rattle.plan_grid.specs.Frame.{frame_seen}
-use Rattle.plan_convex.specs.Convex.{spots_seen}
+use Rattle.plan_grid.specs.Spot.{spots_seen}
 use Rattle.plan_top.specs.Sum.{Along}
 use Rattle.plan_top.specs.declared.scene.Scene.{Scene}
 

@@ -8,7 +8,7 @@ use Rattle.plan_spec.specs.Placement as placement
 use Rattle.plan_spec.specs.Placement.{Obstacle, Leaves, Meets}
 use Rattle.plan_grid.specs.declared.spot.Spot.{Spot}
 use Rattle.plan_grid.specs.Frame.{frame_seen}
-use Rattle.plan_convex.specs.Convex.{spots_seen}
+use Rattle.plan_grid.specs.Spot.{spots_seen}
 use Rattle.plan_top.specs.declared.scene.Scene.{Scene}
 
 -- the robot leaves the frame at the placements that are not strictly inside the room

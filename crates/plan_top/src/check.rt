@@ -3,7 +3,7 @@ ghost use Rattle.plan_spec.specs.Placement as placement;
 ghost use Rattle.plan_spec.specs.Route.{IsClearPolyline, legs};
 ghost use Rattle.plan_spec.specs.Reply.{IsFirstFault};
 ghost use Rattle.plan_grid.specs.Spot.{spot_seen, edge_seen, IsWithin};
-ghost use Rattle.plan_convex.specs.Convex.{spots_seen};
+ghost use Rattle.plan_grid.specs.Spot.{spots_seen};
 ghost use Rattle.plan_top.specs.Fault.{fault_seen};
 ghost use Rattle.plan_top.specs.Scene.{IsSceneOf};
 ghost use Rattle.plan_top.specs.Check.{LegTouches, IsFirstLeg};

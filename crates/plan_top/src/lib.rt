@@ -7,7 +7,6 @@ mod command;
 mod fault;
 mod lines;
 mod no_memory;
-mod oriented;
 mod room;
 mod scene;
 mod status;

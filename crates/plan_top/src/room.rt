@@ -4,8 +4,9 @@ ghost use Rattle.plan_spec.specs.Vector.{LeX, LeY};
 ghost use Rattle.plan_spec.specs.Frame.{OnOrBeyond};
 ghost use Rattle.plan_grid.specs.Frame.{frame_seen};
 ghost use Rattle.plan_grid.specs.Spot.{spot_seen, IsWithin};
-ghost use Rattle.plan_convex.specs.Convex.{spots_seen};
-ghost use Rattle.plan_wire.specs.Fits.{IsFrame, IsShape};
+ghost use Rattle.plan_grid.specs.Spot.{spots_seen};
+ghost use Rattle.plan_wire.specs.Fits.{IsFrame};
+ghost use Rattle.plan_grid.specs.Triangle.{IsTriangle};
 ghost use Rattle.plan_top.specs.Scene.{IsRoom};
 
 use plan_grid::{Frame, Spot};
@@ -14,7 +15,7 @@ use plan_grid::{Frame, Spot};
 /// inside the room, which is the frame moved by the robot's bounding box.
 pub fn room(frame: Frame, robot: [Spot; 3]) -> Frame
     requires frame { IsFrame frame }
-    requires robot { IsShape robot }
+    requires robot { IsTriangle robot }
     ensures { IsRoom (spots_seen robot) (frame_seen frame) (frame_seen result) }
 {
     let [a, b, c] = robot;

@@ -1,16 +1,16 @@
 ghost use Rattle.std.specs.Prelude.{map, All, IfOk};
 ghost use Rattle.std.specs.List.{AllZip};
 ghost use Rattle.plan_grid.specs.Frame.{frame_seen};
-ghost use Rattle.plan_convex.specs.Convex.{spots_seen};
+ghost use Rattle.plan_grid.specs.Spot.{spots_seen};
 ghost use Rattle.plan_wire.specs.First.{obstacle_seen};
-ghost use Rattle.plan_wire.specs.Fits.{IsFrame, IsShape};
+ghost use Rattle.plan_wire.specs.Fits.{IsFrame};
+ghost use Rattle.plan_grid.specs.Triangle.{IsTriangle};
 ghost use Rattle.plan_top.specs.Scene.{IsSumOf, IsSceneOf};
 
-use crate::oriented::oriented;
 use crate::room::room;
 use crate::sum::Sum;
 use plan_convex::sum;
-use plan_grid::{Frame, Spot};
+use plan_grid::{Frame, Spot, counterclockwise};
 use plan_wire::FirstShape;
 use std::alloc::{AllocError, Global};
 
@@ -31,8 +31,8 @@ impl Scene {
         obstacles: &[FirstShape],
     ) -> Result<Scene, AllocError>
         requires frame { IsFrame frame }
-        requires robot { IsShape robot }
-        requires obstacles { All (λ o. IsShape o.spots) obstacles.now }
+        requires robot { IsTriangle robot }
+        requires obstacles { All (λ o. IsTriangle o.spots) obstacles.now }
         ensures { IfOk result (IsSceneOf record {
           frame = frame_seen frame;
           robot = spots_seen robot;
@@ -47,15 +47,15 @@ impl Scene {
 
 // The sums of the obstacles with the robot, in the order of the obstacles.
 fn sums(alloc: Global, robot: [Spot; 3], obstacles: &[FirstShape]) -> Result<Vec<Sum>, AllocError>
-    requires robot { IsShape robot }
-    requires obstacles { All (λ o. IsShape o.spots) obstacles.now }
+    requires robot { IsTriangle robot }
+    requires obstacles { All (λ o. IsTriangle o.spots) obstacles.now }
     ensures { IfOk result
         (λ sums. AllZip (IsSumOf (spots_seen robot)) (map obstacle_seen obstacles.now) sums.items) }
 {
-    let robot = oriented(robot);
+    let robot = counterclockwise(robot);
     let mut sums = Vec::new(alloc);
     for obstacle in obstacles {
-        sums.push(Sum::of(sum(oriented(obstacle.spots), robot)))?;
+        sums.push(Sum::of(sum(counterclockwise(obstacle.spots), robot)))?;
     }
     Ok(sums)
 }

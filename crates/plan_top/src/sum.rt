@@ -1,7 +1,7 @@
 ghost use Rattle.std.specs.Prelude.{◌≡◌, ◌<◌, ◌↔◌, length, All, IsTrue};
 ghost use Rattle.plan_grid.specs.Spot.{edge_seen, IsWithin};
 ghost use Rattle.plan_spec.specs.Polygon.{Inside};
-ghost use Rattle.plan_convex.specs.Convex.{spots_seen};
+ghost use Rattle.plan_grid.specs.Spot.{spots_seen};
 ghost use Rattle.plan_top.specs.Sum.{Along, AreApart, Encloses, IsLeftOrBelow};
 
 use crate::room::{highest, lowest};

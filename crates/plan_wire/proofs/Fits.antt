@@ -20,7 +20,8 @@ use Rattle.plan_wire.specs.Document.{whole, within, natural, spot_from, spot_of,
 use Rattle.plan_wire.proofs.Documents.{each_length}
 use Rattle.plan_wire.proofs.Values.{values, values_of_text, member_has_fewer, elements_are_few}
 use Rattle.plan_wire.specs.First.{obstacle_seen, document_seen}
-use Rattle.plan_wire.specs.Fits.{IsShape, IsFrame, Fits}
+use Rattle.plan_wire.specs.Fits.{IsFrame, Fits}
+use Rattle.plan_grid.specs.Triangle.{area, IsTriangle}
 use Rattle.plan_wire.specs.declared.document.FirstDocument.{FirstDocument}
 use Rattle.plan_wire.specs.declared.document.FirstShape.{FirstShape}
 
@@ -97,17 +98,21 @@ not_in_line z test zero =
     let both : not true ≡ true = rw flat at test in
     cc
 
-turned_spots : (spots : List Spot) (a b c : Spot) → is_triangle (map spot_seen spots) ≡ true → spots ≡ a ∷ b ∷ c ∷ [] → turn (spot_seen a) (spot_seen b) (spot_seen c) ≢ pos 0
-turned_spots spots a b c test is = not_in_line _ (ap (λ spots. is_triangle (map spot_seen spots)) (sym is) ∙ test)
+not_flat_spots : (spots : List Spot) → is_triangle (map spot_seen spots) ≡ true → area spots ≢ pos 0
+not_flat_spots (a ∷ b ∷ c ∷ []) test = not_in_line _ test
+not_flat_spots [] test = cc
+not_flat_spots (a ∷ []) test = cc
+not_flat_spots (a ∷ b ∷ []) test = cc
+not_flat_spots (a ∷ b ∷ c ∷ d ∷ rest) test = cc
 
-shape_kept : (v : Data) (spots : List Spot) → shape_of v ≡ Some (map spot_seen spots) → IsShape spots
+shape_kept : (v : Data) (spots : List Spot) → shape_of v ≡ Some (map spot_seen spots) → IsTriangle spots
 unfolding shape_of
 shape_kept v spots read =
     let p = passed is_triangle (option_and_then (each spot_of) (elements v)) (map spot_seen spots) read in
     record {
       three = three_spots spots p.1;
       bounded = option_and_then_some (each spot_of) (elements v) (map spot_seen spots) p.0 (λ items _ rest. each_keeps (IsWithin 1023) spot_of spot_seen shape_spot_bounded items spots rest);
-      turned = λ a b c is. turned_spots spots a b c p.1 is;
+      not_flat = not_flat_spots spots p.1;
     }
 
 below : (a b : ℤ) → int_lt a b ≡ true → a <ℤ b
@@ -175,7 +180,7 @@ unfolding point_of
 point_kept v p read = option_and_then_some point_from (elements v) (spot_seen p) read (λ items _ rest. point_list_kept items p rest)
 
 IsGood : FirstShape → Type 0
-IsGood o = ((1 ≤ o.id) × (o.id ≤ 65535)) × IsShape o.spots
+IsGood o = ((1 ≤ o.id) × (o.id ≤ 65535)) × IsTriangle o.spots
 
 id_bounded : (z : ℤ) (id : ℕ) → int_le (pos 1) z ≡ true → int_le z (pos 65535) ≡ true → natural z ≡ id → (1 ≤ id) × (id ≤ 65535)
 id_bounded (pos n) id low high is = (grind (arith, ints), grind (arith, ints))

@@ -1,17 +1,10 @@
 -- What every first document that is read keeps to.
 use Rattle.std.specs.Prelude.{◌≡◌, ◌≢◌, ℕ, ◌≤◌, pos, ◌<ℤ◌, List, [], ◌∷◌, length, All, unsigned_abs}
-use Rattle.plan_spec.specs.Vector.{turn}
-use Rattle.plan_grid.specs.Spot.{spot_seen, IsWithin}
+use Rattle.plan_grid.specs.Spot.{IsWithin}
+use Rattle.plan_grid.specs.Triangle.{IsTriangle}
 use Rattle.plan_grid.specs.declared.frame.Frame.{Frame}
-use Rattle.plan_grid.specs.declared.spot.Spot.{Spot}
 use Rattle.plan_wire.specs.Document.{most_bytes}
 use Rattle.plan_wire.specs.declared.document.FirstDocument.{FirstDocument}
-
--- three spots, with coordinates of at most 1023 in absolute value, that are not in one line
-pub record IsShape (spots : List Spot) : Type 0 where
-  pub three : length spots ≡ 3
-  pub bounded : All (IsWithin 1023) spots
-  pub turned : (a b c : Spot) → spots ≡ a ∷ b ∷ c ∷ [] → turn (spot_seen a) (spot_seen b) (spot_seen c) ≢ pos 0
 
 -- corners with coordinates of at most 1023 in absolute value, the lower left one strictly below and left of the other
 pub record IsFrame (f : Frame) : Type 0 where
@@ -23,10 +16,10 @@ pub record IsFrame (f : Frame) : Type 0 where
 -- at most 64 obstacles, with ids from 1 to 65,535, points with coordinates of at most 2046 in absolute value, and a path of no more points than a document has bytes
 pub record Fits (d : FirstDocument) : Type 0 where
   pub frame : IsFrame d.frame
-  pub robot : IsShape d.robot
+  pub robot : IsTriangle d.robot
   pub few : length d.obstacles.items ≤ 64
   pub ids : All (λ o. (1 ≤ o.id) × (o.id ≤ 65535)) d.obstacles.items
-  pub shapes : All (λ o. IsShape o.spots) d.obstacles.items
+  pub shapes : All (λ o. IsTriangle o.spots) d.obstacles.items
   pub start : IsWithin 2046 d.start
   pub goal : IsWithin 2046 d.goal
   pub path : All (IsWithin 2046) d.path.items

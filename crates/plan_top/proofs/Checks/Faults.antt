@@ -19,13 +19,13 @@ use Rattle.plan_top.proofs.Checks.Touching.{touches_where, along_alike}
 use Rattle.plan_grid.specs.declared.spot.Spot.{Spot}
 use Rattle.plan_grid.specs.Frame.{frame_seen}
 use Rattle.plan_grid.specs.Spot.{spot_seen}
-use Rattle.plan_convex.specs.Convex.{spots_seen}
+use Rattle.plan_grid.specs.Spot.{spots_seen}
 use Rattle.plan_top.specs.Sum.{Along}
 use Rattle.plan_top.specs.Scene.{IsSumOf, IsSceneOf}
 use Rattle.plan_top.specs.Check.{LegTouches, IsFirstLeg}
 use Rattle.plan_top.specs.declared.scene.Scene.{Scene}
 use Rattle.plan_top.proofs.Scenes.Box.{spot_is}
-use Rattle.plan_convex.proofs.Least.{corner}
+use Rattle.plan_grid.proofs.Spots.{corner}
 use Rattle.plan_top.proofs.Checks.Legs.{all_legs}
 
 -- ---- the ends

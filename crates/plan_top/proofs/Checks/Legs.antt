@@ -10,12 +10,12 @@ use Rattle.plan_top.proofs.Checks.ClearPaths.{length_legs, leg_at}
 use Rattle.plan_grid.specs.declared.spot.Spot.{Spot}
 use Rattle.plan_grid.specs.Frame.{frame_seen}
 use Rattle.plan_grid.specs.Spot.{spot_seen, edge_seen}
-use Rattle.plan_convex.specs.Convex.{spots_seen}
+use Rattle.plan_grid.specs.Spot.{spots_seen}
 use Rattle.plan_top.specs.Sum.{Along}
 use Rattle.plan_top.specs.Check.{LegTouches, IsFirstLeg}
 use Rattle.plan_top.specs.declared.scene.Scene.{Scene}
-use Rattle.plan_convex.proofs.Least.{corner}
-use Rattle.plan_top.proofs.Scenes.Corners.{origin}
+use Rattle.plan_grid.proofs.Spots.{corner}
+use Rattle.plan_grid.proofs.Spots.{origin}
 
 -- ---- one segment
 pub misses : (scene : Scene) (s : Segment) → ¬ (OnOrBeyond (frame_seen scene.room) s.a) → ¬ (OnOrBeyond (frame_seen scene.room) s.b)

@@ -16,7 +16,7 @@ use Rattle.plan_plane.proofs.Polygon.Fan.{nonneg_at}
 use Rattle.plan_grid.specs.declared.frame.Frame.{Frame}
 use Rattle.plan_grid.specs.declared.spot.Spot.{Spot}
 use Rattle.plan_grid.specs.Spot.{spot_seen, edge_seen}
-use Rattle.plan_convex.specs.Convex.{spots_seen}
+use Rattle.plan_grid.specs.Spot.{spots_seen}
 use Rattle.plan_top.specs.Sum.{Along, AreApart, Encloses}
 use Rattle.plan_top.proofs.Scenes.Leaving.{right_of, left_of, right_of_is, left_of_is}
 

@@ -11,10 +11,10 @@ use Rattle.plan_grid.specs.declared.frame.Frame.{Frame}
 use Rattle.plan_grid.specs.declared.spot.Spot.{Spot}
 use Rattle.plan_grid.specs.Spot.{spot_seen, IsWithin}
 use Rattle.plan_grid.specs.Frame.{frame_seen}
-use Rattle.plan_convex.specs.Convex.{spots_seen}
-use Rattle.plan_wire.specs.Fits.{IsShape}
+use Rattle.plan_grid.specs.Spot.{spots_seen}
+use Rattle.plan_grid.specs.Triangle.{IsTriangle}
 use Rattle.plan_top.specs.Scene.{IsRoom}
-use Rattle.plan_convex.proofs.Least.{corner}
+use Rattle.plan_grid.proofs.Spots.{corner}
 
 -- ---- of three
 min_of_two : (a b : ℤ) → (a ≡ int_min a b) ⊎ (b ≡ int_min a b)
@@ -88,7 +88,7 @@ box a b c =
     }
 
 -- ---- the room
-pub room_is : (robot : List Spot) (frame : Frame) (m n : Spot) → IsShape robot
+pub room_is : (robot : List Spot) (frame : Frame) (m n : Spot) → IsTriangle robot
     → m.x ≡ frame.low.x -ℤ (low (corner robot 0) (corner robot 1) (corner robot 2)).x → m.y ≡ frame.low.y -ℤ (low (corner robot 0) (corner robot 1) (corner robot 2)).y
     → n.x ≡ frame.high.x -ℤ (high (corner robot 0) (corner robot 1) (corner robot 2)).x → n.y ≡ frame.high.y -ℤ (high (corner robot 0) (corner robot 1) (corner robot 2)).y
     → IsRoom (spots_seen robot) (frame_seen frame) (frame_seen (record { low = m; high = n }))
@@ -99,7 +99,7 @@ room_is (a ∷ (b ∷ (c ∷ (d ∷ s)))) frame m n h mx my nx ny = absurd (let 
 room_is (a ∷ (b ∷ (c ∷ []))) frame m n h mx my nx ny =
     let moved : room (record { low = spot_seen (low a b c); high = spot_seen (high a b c) }) (frame_seen frame) ≡ frame_seen (record { low = m; high = n }) =
     (λ i. record { low = spot (sym mx i) (sym my i); high = spot (sym nx i) (sym ny i) }) in
-    λ p hp. subst (λ r. Leaves (spots_seen (a ∷ b ∷ c ∷ [])) (frame_seen frame) p ↔ OnOrBeyond r p) moved (leaves (spot_seen a) (spot_seen b) (spot_seen c) _ (frame_seen frame) p (h.turned a b c refl) (box a b c) refl refl hp)
+    λ p hp. subst (λ r. Leaves (spots_seen (a ∷ b ∷ c ∷ [])) (frame_seen frame) p ↔ OnOrBeyond r p) moved (leaves (spot_seen a) (spot_seen b) (spot_seen c) _ (frame_seen frame) p (h.not_flat) (box a b c) refl refl hp)
 
 -- ---- its corners are no farther than the robot's
 within_of : (a b c m : ℤ) → unsigned_abs a ≤ 1023 → unsigned_abs b ≤ 1023 → unsigned_abs c ≤ 1023 → (a ≡ m) ⊎ ((b ≡ m) ⊎ (c ≡ m)) → unsigned_abs m ≤ 1023
@@ -107,7 +107,7 @@ within_of a b c m ha hb hc (inl e) = subst (λ z. unsigned_abs z ≤ 1023) e ha
 within_of a b c m ha hb hc (inr (inl e)) = subst (λ z. unsigned_abs z ≤ 1023) e hb
 within_of a b c m ha hb hc (inr (inr e)) = subst (λ z. unsigned_abs z ≤ 1023) e hc
 
-module _ (robot : List Spot) (h : IsShape robot) where
+module _ (robot : List Spot) (h : IsTriangle robot) where
   at : (k : ℕ) → k < 3 → IsWithin 1023 (corner robot k)
   at k lt = h.bounded k (record { x = pos 0; y = pos 0 }) (omega (arith, h.three))
 

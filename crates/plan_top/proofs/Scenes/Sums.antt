@@ -5,7 +5,7 @@ use Rattle.std.proofs.lemmas.List.{length-map, get_or-map, take_more}
 use Rattle.plan_spec.specs.Vector.{Vector, IsPoint, minus}
 use Rattle.plan_spec.specs.Polygon.{Inside, counterclockwise_triangle}
 use Rattle.plan_grid.specs.declared.spot.Spot.{Spot}
-use Rattle.plan_convex.specs.Convex.{spots_seen}
+use Rattle.plan_grid.specs.Spot.{spots_seen}
 use Rattle.plan_wire.specs.First.{obstacle_seen}
 use Rattle.plan_wire.specs.declared.document.FirstShape.{FirstShape}
 use Rattle.plan_top.specs.Scene.{IsSumOf}

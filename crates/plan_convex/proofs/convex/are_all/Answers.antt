@@ -4,7 +4,7 @@ use Rattle.std.proofs.lemmas.List.Elements.{All-from_get_or}
 use Rattle.plan_spec.specs.Vector.{turn}
 use Rattle.plan_grid.specs.Order.{IsSign}
 use Rattle.plan_grid.specs.Spot.{spot_seen}
-use Rattle.plan_convex.proofs.Least.{corner}
+use Rattle.plan_grid.proofs.Spots.{corner}
 use Rattle.plan_convex.proofs.Signs.{sign_differs, sign_same}
 use Rattle.plan_convex.proofs.convex.are_all.Goals as goal
 

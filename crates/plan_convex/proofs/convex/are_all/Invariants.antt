@@ -3,7 +3,7 @@ use Rattle.std.proofs.Common.{ℕ, ◌<◌}
 use Rattle.plan_spec.specs.Vector.{turn}
 use Rattle.plan_grid.specs.Order.{IsSign}
 use Rattle.plan_grid.specs.Spot.{spot_seen}
-use Rattle.plan_convex.proofs.Least.{corner}
+use Rattle.plan_grid.proofs.Spots.{corner}
 use Rattle.plan_convex.proofs.convex.are_all.Given as goal
 
 abbrev pub invariant-loop-v : goal.invariant-loop-v

@@ -1,7 +1,7 @@
 -- Each return tells what the tests so far have found.
 use Rattle.std.proofs.Common.{◌-◌, length}
 use Rattle.plan_grid.specs.Spot.{spot_seen}
-use Rattle.plan_convex.proofs.Least.{corner}
+use Rattle.plan_grid.proofs.Spots.{corner}
 use Rattle.plan_top.proofs.Checks.Faults.{starts_at, ends_at, are_same, are_other, is_some, not_empty, clear, first_touching}
 use Rattle.plan_top.proofs.check.check.Goals as goal
 

@@ -2,7 +2,7 @@
 use Rattle.std.proofs.Common.{◌≡◌, ◌+◌, ◌-◌, min, length, below_more, refl, subst, arith}
 use Rattle.plan_grid.specs.Spot.{edge_seen}
 use Rattle.plan_top.specs.Check.{LegTouches}
-use Rattle.plan_convex.proofs.Least.{corner}
+use Rattle.plan_grid.proofs.Spots.{corner}
 use Rattle.plan_top.proofs.Checks.Legs.{leg, all_legs, first_leg}
 use Rattle.plan_top.proofs.check.first_touching.Goals as goal
 

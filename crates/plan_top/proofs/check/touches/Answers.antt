@@ -3,7 +3,7 @@ use Rattle.std.proofs.Common.{[], get_or, below_more, subst, ◌∙◌, arith}
 use Rattle.std.proofs.lemmas.List.{get_or_default}
 use Rattle.plan_spec.specs.Polygon.{Inside}
 use Rattle.plan_grid.specs.Spot.{edge_seen}
-use Rattle.plan_convex.specs.Convex.{spots_seen}
+use Rattle.plan_grid.specs.Spot.{spots_seen}
 use Rattle.plan_top.specs.Sum.{Along}
 use Rattle.plan_top.proofs.Checks.Legs.{misses}
 use Rattle.plan_top.proofs.check.touches.Goals as goal

@@ -2,7 +2,7 @@
 use Rattle.std.proofs.Common.{ℕ, [], ◌<◌, get_or}
 use Rattle.plan_spec.specs.Polygon.{Inside}
 use Rattle.plan_grid.specs.Spot.{edge_seen}
-use Rattle.plan_convex.specs.Convex.{spots_seen}
+use Rattle.plan_grid.specs.Spot.{spots_seen}
 use Rattle.plan_top.specs.Sum.{Along}
 use Rattle.plan_top.proofs.check.touches.Given as goal
 

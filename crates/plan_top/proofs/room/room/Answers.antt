@@ -2,7 +2,7 @@
 use Rattle.std.proofs.Common.{◌≡◌, sym, subst}
 use Rattle.plan_grid.specs.Spot.{IsWithin}
 use Rattle.plan_top.proofs.Scenes.Box.{low, high, room_is, low_within, high_within, spot_is}
-use Rattle.plan_convex.proofs.Least.{corner}
+use Rattle.plan_grid.proofs.Spots.{corner}
 use Rattle.plan_top.proofs.room.room.Goals as goal
 
 pub minus-requires-clause-q_bounded : goal.minus-requires-clause-q_bounded

@@ -1,7 +1,7 @@
 -- The sums so far are those of the obstacles so far.
 use Rattle.std.proofs.Common.{take, map}
 use Rattle.std.specs.List.{AllZip}
-use Rattle.plan_convex.specs.Convex.{spots_seen}
+use Rattle.plan_grid.specs.Spot.{spots_seen}
 use Rattle.plan_wire.specs.First.{obstacle_seen}
 use Rattle.plan_top.specs.Scene.{IsSumOf}
 use Rattle.plan_top.proofs.scene.sums.Given as goal

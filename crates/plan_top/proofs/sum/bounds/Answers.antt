@@ -1,7 +1,7 @@
 -- The box that takes in one more spot encloses it and all that the box before enclosed.
 use Rattle.std.proofs.Common.{◌≡◌, List, length, ◌<◌, get_or, below_more, subst, sym, arith}
 use Rattle.std.proofs.lemmas.List.{get_or_default}
-use Rattle.plan_convex.proofs.Least.{corner}
+use Rattle.plan_grid.proofs.Spots.{corner}
 use Rattle.plan_top.specs.Sum.{Encloses}
 use Rattle.plan_top.proofs.Scenes.Bounds.{Grown, still_enclosed, now_enclosed}
 use Rattle.plan_top.proofs.sum.bounds.Goals as goal

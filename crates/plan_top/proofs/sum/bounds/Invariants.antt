@@ -1,6 +1,6 @@
 -- The box so far encloses the spots so far, and the first.
 use Rattle.std.proofs.Common.{ℕ, ◌<◌, ◌+◌, max}
-use Rattle.plan_convex.proofs.Least.{corner}
+use Rattle.plan_grid.proofs.Spots.{corner}
 use Rattle.plan_top.specs.Sum.{Encloses}
 use Rattle.plan_top.proofs.sum.bounds.Given as goal
 

@@ -3,7 +3,7 @@ use Rattle.std.proofs.Common.{◌≡◌, ◌⊎◌, inl, inr, ℤ, pos, ◌≤�
 use Rattle.plan_exact.proofs.Laws.{linear}
 use Rattle.plan_exact.proofs.Signs.{nonneg_or_neg}
 use Rattle.plan_spec.specs.Polygon.{Inside, OnOrLeft}
-use Rattle.plan_convex.specs.Convex.{spots_seen}
+use Rattle.plan_grid.specs.Spot.{spots_seen}
 use Rattle.plan_convex.proofs.Edges.{edge_at, inside_by_number, left_of_edge}
 use Rattle.plan_convex.proofs.convex.Convex.holds.Goals as goal
 

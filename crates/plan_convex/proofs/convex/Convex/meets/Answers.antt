@@ -1,7 +1,7 @@
 -- A test that passes rules out a common point, and where none passes there is one.
 use Rattle.std.proofs.Common.{subst, refl}
 use Rattle.plan_plane.proofs.Polygon.Meeting.{MeetsSegment}
-use Rattle.plan_convex.specs.Convex.{spots_seen}
+use Rattle.plan_grid.specs.Spot.{spots_seen}
 use Rattle.plan_convex.proofs.Meeting.{is_point, right_of_edge, left_of_line, last_test}
 use Rattle.plan_convex.proofs.convex.Convex.meets.Goals as goal
 

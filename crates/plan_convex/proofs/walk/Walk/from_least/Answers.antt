@@ -1,23 +1,30 @@
--- The walk starts at the corner that was found to be the least; where neither the second nor the third is, the first is.
-use Rattle.std.proofs.Common.{refl}
-use Rattle.plan_convex.proofs.Least.{corner, three_corners, triangle_turned, start_at, first_is_least}
+-- The triangle from its least corner on is still counterclockwise.
+use Rattle.std.proofs.Common.{◌≡◌, refl, subst, List, [], ◌∷◌}
+use Rattle.plan_spec.specs.Polygon.{IsFromLeast}
+use Rattle.plan_grid.specs.declared.spot.Spot.{Spot}
+use Rattle.plan_grid.specs.Spot.{spots_seen}
+use Rattle.plan_grid.specs.Triangle.{IsCounterclockwise, IsRotation}
+use Rattle.plan_grid.proofs.Spots.{corner}
+use Rattle.plan_grid.proofs.Triangles.{three_corners, rotated_left}
 use Rattle.plan_convex.proofs.walk.Walk.from_least.Goals as goal
 
-pub returns-then-is_first-clause-start : goal.returns-then-is_first-clause-start
-returns-then-is_first-clause-start c =
-    let t = c.args.triangle in
-    let a = corner t 0 in let b = corner t 1 in let d = corner t 2 in
-    start_at b d a c.start.result (triangle_turned a b d (three_corners t c.requires)) (c.if-is_first.ensures.0 refl) c.start.ensures
+-- what is known of a rotation, by the corners that the code reads
+module _ (s r : List Spot) (h : IsCounterclockwise s) (is : IsRotation s r) where
+  three : r ≡ corner r 0 ∷ corner r 1 ∷ corner r 2 ∷ []
+  three = let t = rotated_left s r h is in three_corners r t.triangle.three
 
-pub returns-then-is_first-2-clause-start : goal.returns-then-is_first-2-clause-start
-returns-then-is_first-2-clause-start c =
-    let t = c.args.triangle in
-    let a = corner t 0 in let b = corner t 1 in let d = corner t 2 in
-    start_at d a b c.start-then-is_first-2.result (triangle_turned b d a (triangle_turned a b d (three_corners t c.requires))) (c.if-is_first-2.ensures.0 refl) c.start-then-is_first-2.ensures
+  by_corners : (P : List Spot → Type 0) → P r → P (corner r 0 ∷ corner r 1 ∷ corner r 2 ∷ [])
+  by_corners P p = subst P three p
 
-pub returns-else-is_first-2-clause-start : goal.returns-else-is_first-2-clause-start
-returns-else-is_first-2-clause-start c =
-    let t = c.args.triangle in
-    let a = corner t 0 in let b = corner t 1 in let d = corner t 2 in
-    let h = three_corners t c.requires in
-    start_at a b d c.start-else-is_first-2.result h (first_is_least a b d h (λ k. let e = c.if-is_first.ensures.1 k in cc) (λ k. let e = c.if-is_first-2.ensures.1 k in cc)) c.start-else-is_first-2.ensures
+pub returns-clause-start : goal.returns-clause-start
+returns-clause-start c =
+    let r = c.from_least.result in
+    let is = c.from_least.ensures.rotation in
+    record {
+      triangle = by_corners c.args.triangle r c.requires is IsCounterclockwise (rotated_left c.args.triangle r c.requires is);
+      least = by_corners c.args.triangle r c.requires is (λ s. IsFromLeast (spots_seen s)) c.from_least.ensures.least;
+      edges = refl;
+    }
+
+pub returns-clause-rotation : goal.returns-clause-rotation
+returns-clause-rotation c = let is = c.from_least.ensures.rotation in by_corners c.args.triangle c.from_least.result c.requires is (IsRotation c.args.triangle) is
