@@ -13,3 +13,9 @@ pub mod Triangle
 pub mod Walks
 mod Signs
 mod Meeting
+pub mod Fractions
+pub mod Narrowing
+pub mod Distances
+pub mod Covered
+pub mod Terms
+pub mod Spans

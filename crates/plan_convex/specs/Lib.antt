@@ -1,3 +1,6 @@
 pub mod Convex
 pub mod Meets
 pub mod Walk
+pub mod Parameter
+pub mod Part
+pub mod Span

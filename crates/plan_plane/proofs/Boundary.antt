@@ -4,3 +4,4 @@ pub mod Blocks
 pub mod Between
 pub mod Position
 pub mod Decided
+pub mod Beside
