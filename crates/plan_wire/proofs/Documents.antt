@@ -4,26 +4,27 @@ use Rattle.std.proofs.lemmas.List.{length-map}
 use Rattle.plan_spec.specs.Vector.{Vector}
 use Rattle.serde_json.specs.View.{view, items_view}
 use Rattle.serde_json.specs.declared.value.Value.{Value}
-use Rattle.plan_wire.specs.Document.{list_of, given, each, spot_of, spot_from, is_triangle}
+use Rattle.plan_wire.specs.Document.{list_of, given, each, spot_of, spot_at, spot_from, is_triangle}
 
 pub list_of_items_view : (vs : List Value) → list_of (items_view vs) ≡ map view vs
 list_of_items_view [] = refl
 list_of_items_view (v ∷ vs) = ap (λ ds. view v ∷ ds) (list_of_items_view vs)
 
 -- two numbers, as a list of two reads them
-pub spot_from_two : (vs : List Value) (x y : Value) (limit : ℕ) → length vs ≡ 2 → x ≡ get_or vs 0 x → y ≡ get_or vs 1 y → spot_from limit (map view vs) ≡ spot_from limit (view x ∷ view y ∷ [])
-spot_from_two (a ∷ b ∷ []) x y limit two first second = rw (first, second) refl
-spot_from_two [] x y limit two first second = absurd (omega arith)
-spot_from_two (a ∷ []) x y limit two first second = absurd (omega arith)
-spot_from_two (a ∷ b ∷ c ∷ rest) x y limit two first second = absurd (omega arith)
+pub spot_from_two : (vs : List Value) (x y : Value) → length vs ≡ 2 → x ≡ get_or vs 0 x → y ≡ get_or vs 1 y → spot_from (map view vs) ≡ spot_at 1023 (view x) (view y)
+unfolding spot_from
+spot_from_two (a ∷ b ∷ []) x y two first second = rw (first, second) refl
+spot_from_two [] x y two first second = absurd (omega arith)
+spot_from_two (a ∷ []) x y two first second = absurd (omega arith)
+spot_from_two (a ∷ b ∷ c ∷ rest) x y two first second = absurd (omega arith)
 
 -- any other number of elements is no spot
-pub spot_from_others : (vs : List Value) (limit : ℕ) → length vs ≢ 2 → spot_from limit (map view vs) ≡ None
+pub spot_from_others : (vs : List Value) → length vs ≢ 2 → spot_from (map view vs) ≡ None
 unfolding spot_from
-spot_from_others (a ∷ b ∷ []) limit other = absurd (other refl)
-spot_from_others [] limit other = refl
-spot_from_others (a ∷ []) limit other = refl
-spot_from_others (a ∷ b ∷ c ∷ rest) limit other = refl
+spot_from_others (a ∷ b ∷ []) other = absurd (other refl)
+spot_from_others [] other = refl
+spot_from_others (a ∷ []) other = refl
+spot_from_others (a ∷ b ∷ c ∷ rest) other = refl
 
 one_more : {B : Type 0} (first : Option B) (rest : Option (List B)) (n : ℕ) → IfSome rest (λ bs. length bs ≡ n) → IfSome (option_and_then (λ b. option_map (λ bs. b ∷ bs) rest) first) (λ bs. length bs ≡ suc n)
 one_more None rest n h = tt

@@ -12,13 +12,14 @@ use Rattle.serde_json.specs.Data.{Data}
 use Rattle.serde_json.specs.Find.{as_i64, as_number, get}
 use Rattle.serde_json.specs.Read as json
 use Rattle.plan_spec.specs.Vector.{spot, turn}
+use Rattle.plan_spec.specs.Placement.{Scene}
 use Rattle.plan_grid.specs.Spot.{spot_seen, IsWithin}
 use Rattle.plan_grid.specs.Frame.{frame_seen}
 use Rattle.plan_grid.specs.declared.frame.Frame.{Frame}
 use Rattle.plan_grid.specs.declared.spot.Spot.{Spot}
-use Rattle.plan_wire.specs.Document.{whole, within, natural, spot_from, spot_of, is_triangle, shape_of, frame_from, query_from, point_from, point_of, obstacle_of, obstacles_of, differ, path_of, first_from, first_of, most_bytes, each, given, elements}
+use Rattle.plan_wire.specs.Document.{whole, within, member, natural, spot_at, spot_from, spot_of, is_triangle, shape_of, is_frame, frame_from, frame_of, query_from, query_of, point_from, point_of, obstacle_of, obstacles_of, differ, path_of, document_of, first_of, most_bytes, each, given, elements}
 use Rattle.plan_wire.proofs.Documents.{each_length}
-use Rattle.plan_wire.proofs.Values.{values, values_of_text, member_has_fewer, elements_are_few}
+use Rattle.plan_wire.proofs.Lengths.{values, values_of_text, member_has_fewer, elements_are_few}
 use Rattle.plan_wire.specs.First.{obstacle_seen, document_seen}
 use Rattle.plan_wire.specs.Fits.{IsFrame, Fits}
 use Rattle.plan_grid.specs.Triangle.{area, IsTriangle}
@@ -46,8 +47,8 @@ whole_bounded limit v z read =
     let tests = and_parts _ _ (passed (λ n. int_le (neg_ℤ (pos limit)) n && int_le n (pos limit)) (option_and_then as_i64 (as_number v)) z read).1 in
     bounded limit z tests.0 tests.1
 
-spot_bounded : (limit : ℕ) (v w : Data) (s : Spot) → spot_from limit (v ∷ w ∷ []) ≡ Some (spot_seen s) → IsWithin limit s
-unfolding spot_from
+spot_bounded : (limit : ℕ) (v w : Data) (s : Spot) → spot_at limit v w ≡ Some (spot_seen s) → IsWithin limit s
+unfolding spot_at
 spot_bounded limit v w s read =
     option_and_then_some _ (within limit v) (spot_seen s) read (λ x x_read rest.
     option_and_then_some _ (within limit w) (spot_seen s) rest (λ y y_read same.
@@ -57,16 +58,16 @@ spot_bounded limit v w s read =
       y = whole_bounded limit w s.y (rw (← ap (λ p. p.y) is) y_read);
     }))
 
-list_bounded : (limit : ℕ) (items : List Data) (s : Spot) → spot_from limit items ≡ Some (spot_seen s) → IsWithin limit s
+pair_bounded : (items : List Data) (s : Spot) → spot_from items ≡ Some (spot_seen s) → IsWithin 1023 s
 unfolding spot_from
-list_bounded limit (x ∷ y ∷ []) s read = spot_bounded limit x y s read
-list_bounded limit [] s read = cc
-list_bounded limit (x ∷ []) s read = cc
-list_bounded limit (x ∷ y ∷ z ∷ rest) s read = cc
+pair_bounded (x ∷ y ∷ []) s read = spot_bounded 1023 x y s read
+pair_bounded [] s read = cc
+pair_bounded (x ∷ []) s read = cc
+pair_bounded (x ∷ y ∷ z ∷ rest) s read = cc
 
-shape_spot_bounded : (v : Data) (s : Spot) → spot_of v ≡ Some (spot_seen s) → IsWithin 1023 s
+corner_bounded : (v : Data) (s : Spot) → spot_of v ≡ Some (spot_seen s) → IsWithin 1023 s
 unfolding spot_of
-shape_spot_bounded v s read = option_and_then_some (spot_from 1023) (elements v) (spot_seen s) read (λ items _ rest. list_bounded 1023 items s rest)
+corner_bounded v s read = option_and_then_some spot_from (elements v) (spot_seen s) read (λ items _ rest. pair_bounded items s rest)
 
 -- what each value that is read keeps to, the list of them keeps to
 each_keeps : {X B : Type 0} (P : X → Type 0) (f : Data → Option B) (seen : X → B) → ((v : Data) (x : X) → f v ≡ Some (seen x) → P x) → (vs : List Data) (xs : List X) → each f vs ≡ Some (map seen xs) → All P xs
@@ -111,7 +112,7 @@ shape_kept v spots read =
     let p = passed is_triangle (option_and_then (each spot_of) (elements v)) (map spot_seen spots) read in
     record {
       three = three_spots spots p.1;
-      bounded = option_and_then_some (each spot_of) (elements v) (map spot_seen spots) p.0 (λ items _ rest. each_keeps (IsWithin 1023) spot_of spot_seen shape_spot_bounded items spots rest);
+      bounded = option_and_then_some (each spot_of) (elements v) (map spot_seen spots) p.0 (λ items _ rest. each_keeps (IsWithin 1023) spot_of spot_seen corner_bounded items spots rest);
       not_flat = not_flat_spots spots p.1;
     }
 
@@ -121,8 +122,8 @@ below a b test = grind (arith, ints)
 frame_of_four : (x1 y1 x2 y2 : Data) (f : Frame) → frame_from (x1 ∷ y1 ∷ x2 ∷ y2 ∷ []) ≡ Some (frame_seen f) → IsFrame f
 unfolding frame_from
 frame_of_four x1 y1 x2 y2 f read =
-    option_and_then_some _ (spot_from 1023 (x1 ∷ y1 ∷ [])) (frame_seen f) read (λ low low_read rest.
-    option_and_then_some _ (spot_from 1023 (x2 ∷ y2 ∷ [])) (frame_seen f) rest (λ high high_read test.
+    option_and_then_some _ (spot_at 1023 x1 y1) (frame_seen f) read (λ low low_read rest.
+    option_and_then_some _ (spot_at 1023 x2 y2) (frame_seen f) rest (λ high high_read test.
     let c = cond_some (int_lt low.x high.x && int_lt low.y high.y) _ (frame_seen f) test in
     let tests = and_parts (int_lt low.x high.x) (int_lt low.y high.y) c.0 in
     let is_low : low ≡ spot_seen f.low = ap (λ g. g.low) c.1 in
@@ -134,36 +135,44 @@ frame_of_four x1 y1 x2 y2 f read =
       tall = below f.low.y f.high.y (rw (is_low, is_high) at tests.1);
     }))
 
-frame_kept : (items : List Data) (f : Frame) → frame_from items ≡ Some (frame_seen f) → IsFrame f
+frame_list_kept : (items : List Data) (f : Frame) → frame_from items ≡ Some (frame_seen f) → IsFrame f
 unfolding frame_from
-frame_kept (x1 ∷ y1 ∷ x2 ∷ y2 ∷ []) f read = frame_of_four x1 y1 x2 y2 f read
-frame_kept [] f read = cc
-frame_kept (a ∷ []) f read = cc
-frame_kept (a ∷ b ∷ []) f read = cc
-frame_kept (a ∷ b ∷ c ∷ []) f read = cc
-frame_kept (a ∷ b ∷ c ∷ d ∷ e ∷ rest) f read = cc
+frame_list_kept (x1 ∷ y1 ∷ x2 ∷ y2 ∷ []) f read = frame_of_four x1 y1 x2 y2 f read
+frame_list_kept [] f read = cc
+frame_list_kept (a ∷ []) f read = cc
+frame_list_kept (a ∷ b ∷ []) f read = cc
+frame_list_kept (a ∷ b ∷ c ∷ []) f read = cc
+frame_list_kept (a ∷ b ∷ c ∷ d ∷ e ∷ rest) f read = cc
+
+frame_kept : (v : Data) (f : Frame) → frame_of v ≡ Some (frame_seen f) → IsFrame f
+unfolding frame_of
+frame_kept v f read = option_and_then_some frame_from (elements v) (frame_seen f) read (λ items _ rest. frame_list_kept items f rest)
 
 query_of_four : (sx sy gx gy : Data) (start goal : Spot) → query_from (sx ∷ sy ∷ gx ∷ gy ∷ []) ≡ Some (spot_seen start, spot_seen goal) → IsWithin 2046 start × IsWithin 2046 goal
 unfolding query_from
 query_of_four sx sy gx gy start goal read =
-    option_and_then_some _ (spot_from 2046 (sx ∷ sy ∷ [])) (spot_seen start, spot_seen goal) read (λ s s_read rest.
-    option_and_then_some _ (spot_from 2046 (gx ∷ gy ∷ [])) (spot_seen start, spot_seen goal) rest (λ g g_read same.
+    option_and_then_some _ (spot_at 2046 sx sy) (spot_seen start, spot_seen goal) read (λ s s_read rest.
+    option_and_then_some _ (spot_at 2046 gx gy) (spot_seen start, spot_seen goal) rest (λ g g_read same.
     let parts = some_pair_parts s (spot_seen start) g (spot_seen goal) same in
     (spot_bounded 2046 sx sy start (s_read ∙ ap Some parts.0), spot_bounded 2046 gx gy goal (g_read ∙ ap Some parts.1))))
 
-query_kept : (items : List Data) (start goal : Spot) → query_from items ≡ Some (spot_seen start, spot_seen goal) → IsWithin 2046 start × IsWithin 2046 goal
+query_list_kept : (items : List Data) (start goal : Spot) → query_from items ≡ Some (spot_seen start, spot_seen goal) → IsWithin 2046 start × IsWithin 2046 goal
 unfolding query_from
-query_kept (sx ∷ sy ∷ gx ∷ gy ∷ []) start goal read = query_of_four sx sy gx gy start goal read
-query_kept [] start goal read = cc
-query_kept (a ∷ []) start goal read = cc
-query_kept (a ∷ b ∷ []) start goal read = cc
-query_kept (a ∷ b ∷ c ∷ []) start goal read = cc
-query_kept (a ∷ b ∷ c ∷ d ∷ e ∷ rest) start goal read = cc
+query_list_kept (sx ∷ sy ∷ gx ∷ gy ∷ []) start goal read = query_of_four sx sy gx gy start goal read
+query_list_kept [] start goal read = cc
+query_list_kept (a ∷ []) start goal read = cc
+query_list_kept (a ∷ b ∷ []) start goal read = cc
+query_list_kept (a ∷ b ∷ c ∷ []) start goal read = cc
+query_list_kept (a ∷ b ∷ c ∷ d ∷ e ∷ rest) start goal read = cc
+
+query_kept : (v : Data) (start goal : Spot) → query_of v ≡ Some (spot_seen start, spot_seen goal) → IsWithin 2046 start × IsWithin 2046 goal
+unfolding query_of
+query_kept v start goal read = option_and_then_some query_from (elements v) (spot_seen start, spot_seen goal) read (λ items _ rest. query_list_kept items start goal rest)
 
 point_of_three : (x y w : Data) (p : Spot) → point_from (x ∷ y ∷ w ∷ []) ≡ Some (spot_seen p) → IsWithin 2046 p
 unfolding point_from
 point_of_three x y w p read =
-    option_and_then_some _ (spot_from 2046 (x ∷ y ∷ [])) (spot_seen p) read (λ q q_read rest.
+    option_and_then_some _ (spot_at 2046 x y) (spot_seen p) read (λ q q_read rest.
     option_and_then_some _ (whole (pos 1) (pos 1) w) (spot_seen p) rest (λ _ _ same.
     spot_bounded 2046 x y p (q_read ∙ same)))
 
@@ -179,18 +188,18 @@ point_kept : (v : Data) (p : Spot) → point_of v ≡ Some (spot_seen p) → IsW
 unfolding point_of
 point_kept v p read = option_and_then_some point_from (elements v) (spot_seen p) read (λ items _ rest. point_list_kept items p rest)
 
-IsGood : FirstShape → Type 0
-IsGood o = ((1 ≤ o.id) × (o.id ≤ 65535)) × IsTriangle o.spots
+HasBounds : FirstShape → Type 0
+HasBounds o = ((1 ≤ o.id) × (o.id ≤ 65535)) × IsTriangle o.spots
 
 id_bounded : (z : ℤ) (id : ℕ) → int_le (pos 1) z ≡ true → int_le z (pos 65535) ≡ true → natural z ≡ id → (1 ≤ id) × (id ≤ 65535)
 id_bounded (pos n) id low high is = (grind (arith, ints), grind (arith, ints))
 id_bounded (negsuc n) id low high is = absurd (grind (arith, ints))
 
-obstacle_kept : (v : Data) (o : FirstShape) → obstacle_of v ≡ Some (obstacle_seen o) → IsGood o
-unfolding obstacle_of whole IsGood
+obstacle_kept : (v : Data) (o : FirstShape) → obstacle_of v ≡ Some (obstacle_seen o) → HasBounds o
+unfolding obstacle_of whole HasBounds
 obstacle_kept v o read =
-    option_and_then_some _ (option_and_then (whole (pos 1) (pos 65535)) (get (codes "id") v)) (obstacle_seen o) read (λ id id_read rest.
-    option_and_then_some _ (option_and_then shape_of (get (codes "shape") v)) (obstacle_seen o) rest (λ shape shape_read same.
+    option_and_then_some _ (member (codes "id") (whole (pos 1) (pos 65535)) v) (obstacle_seen o) read (λ id id_read rest.
+    option_and_then_some _ (member (codes "shape") shape_of v) (obstacle_seen o) rest (λ shape shape_read same.
     let is : (record { id = natural id; shape = shape }) ≡ obstacle_seen o = same_Some _ _ same in (
       option_and_then_some (whole (pos 1) (pos 65535)) (get (codes "id") v) id id_read (λ d _ d_read.
           let tests = and_parts _ _ (passed (λ n. int_le (pos 1) n && int_le n (pos 65535)) (option_and_then as_i64 (as_number d)) id d_read).1 in
@@ -198,13 +207,13 @@ obstacle_kept v o read =
       option_and_then_some shape_of (get (codes "shape") v) shape shape_read (λ d _ d_read. shape_kept d o.spots (d_read ∙ ap (λ p. Some p.shape) is)),
     )))
 
-obstacles_kept : (v : Data) (os : List FirstShape) → obstacles_of v ≡ Some (map obstacle_seen os) → (length os ≤ 64) × All IsGood os
+obstacles_kept : (v : Data) (os : List FirstShape) → obstacles_of v ≡ Some (map obstacle_seen os) → (length os ≤ 64) × All HasBounds os
 unfolding obstacles_of
 obstacles_kept v os read =
     let p = passed (λ os. nat_le (length os) 64 && differ os) (option_and_then (each obstacle_of) (elements v)) (map obstacle_seen os) read in
     let few = (and_parts (nat_le (length (map obstacle_seen os)) 64) (differ (map obstacle_seen os)) p.1).0 in (
       leb-true (length os) 64 (rw length-map at few),
-      option_and_then_some (each obstacle_of) (elements v) (map obstacle_seen os) p.0 (λ items _ rest. each_keeps IsGood obstacle_of obstacle_seen obstacle_kept items os rest),
+      option_and_then_some (each obstacle_of) (elements v) (map obstacle_seen os) p.0 (λ items _ rest. each_keeps HasBounds obstacle_of obstacle_seen obstacle_kept items os rest),
     )
 
 path_kept : (v : Data) (path : List Spot) → path_of v ≡ Some (map spot_seen path) → All (IsWithin 2046) path × (length path < values v)
@@ -217,37 +226,39 @@ path_kept v path read =
       omega (arith, each_as_many point_of spot_seen vs path vs_read, elements_are_few points vs is_list, member_has_fewer (codes "path") v points found),
     )))
 
-members_kept : (v : Data) (d : FirstDocument) → first_from v ≡ Some (document_seen d) → values v ≤ suc most_bytes → Fits d
-unfolding first_from IsGood
+members_kept : (v : Data) (d : FirstDocument) → document_of v ≡ Some (document_seen d) → values v ≤ suc most_bytes → Fits d
+unfolding document_of HasBounds
 members_kept v d read small =
-    option_and_then_some _ (option_and_then (whole (pos 1) (pos 1)) (get (codes "format") v)) (document_seen d) read (λ _ _ after_format.
-    option_and_then_some _ (option_and_then frame_from (option_and_then elements (get (codes "frame") v))) (document_seen d) after_format (λ frame frame_read after_frame.
-    option_and_then_some _ (option_and_then shape_of (get (codes "robot") v)) (document_seen d) after_frame (λ robot robot_read after_robot.
-    option_and_then_some _ (option_and_then obstacles_of (get (codes "obstacles") v)) (document_seen d) after_robot (λ obstacles obstacles_read after_obstacles.
-    option_and_then_some _ (option_and_then query_from (option_and_then elements (get (codes "query") v))) (document_seen d) after_obstacles (λ query query_read after_query.
-    option_and_then_some _ (option_and_then path_of (get (codes "certificate") v)) (document_seen d) after_query (λ path path_read same.
-    let is : (record { scene = record { frame = frame; robot = robot; obstacles = obstacles }; start = query.0; goal = query.1; path = path }) ≡ document_seen d = same_Some _ _ same in
+    option_and_then_some _ (member (codes "format") (whole (pos 1) (pos 1)) v) (document_seen d) read (λ _ _ after_format.
+    option_and_then_some _ (member (codes "frame") frame_of v) (document_seen d) after_format (λ frame frame_read after_frame.
+    option_and_then_some _ (member (codes "robot") shape_of v) (document_seen d) after_frame (λ robot robot_read after_robot.
+    option_and_then_some _ (member (codes "obstacles") obstacles_of v) (document_seen d) after_robot (λ obstacles obstacles_read after_obstacles.
+    option_and_then_some _ (member (codes "query") query_of v) (document_seen d) after_obstacles (λ query query_read after_query.
+    option_and_then_some _ (member (codes "certificate") path_of v) (document_seen d) after_query (λ path path_read same.
+    let scene : Scene = record { frame = frame; robot = robot; obstacles = obstacles } in
+    let is : (record { scene = scene; start = query.0; goal = query.1; path = path }) ≡ document_seen d = same_Some _ _ same in
     let good = option_and_then_some obstacles_of (get (codes "obstacles") v) obstacles obstacles_read (λ w _ w_read. obstacles_kept w d.obstacles.items (w_read ∙ ap (λ f. Some f.scene.obstacles) is)) in
-    let ends = option_and_then_some query_from (option_and_then elements (get (codes "query") v)) query query_read (λ items _ items_read. query_kept items d.start d.goal (items_read ∙ ap (λ f. Some (f.start, f.goal)) is)) in
-    let path : All (IsWithin 2046) d.path.items × (length d.path.items ≤ most_bytes) = option_and_then_some path_of (get (codes "certificate") v) path path_read (λ w found w_read.
+    let ends = option_and_then_some query_of (get (codes "query") v) query query_read (λ w _ w_read. query_kept w d.start d.goal (w_read ∙ ap (λ f. Some (f.start, f.goal)) is)) in
+    let points : All (IsWithin 2046) d.path.items × (length d.path.items ≤ most_bytes) =
+    option_and_then_some path_of (get (codes "certificate") v) path path_read (λ w found w_read.
     let kept = path_kept w d.path.items (w_read ∙ ap (λ f. Some f.path) is) in
     let few : length d.path.items ≤ most_bytes = omega (arith, kept.1, member_has_fewer (codes "certificate") v w found) in
     (kept.0, few)) in
     record {
-      frame = option_and_then_some frame_from (option_and_then elements (get (codes "frame") v)) frame frame_read (λ items _ items_read. frame_kept items d.frame (items_read ∙ ap (λ f. Some f.scene.frame) is));
+      frame = option_and_then_some frame_of (get (codes "frame") v) frame frame_read (λ w _ w_read. frame_kept w d.frame (w_read ∙ ap (λ f. Some f.scene.frame) is));
       robot = option_and_then_some shape_of (get (codes "robot") v) robot robot_read (λ w _ w_read. shape_kept w d.robot (w_read ∙ ap (λ f. Some f.scene.robot) is));
       few = good.0;
       ids = λ k o within. (good.1 k o within).0;
       shapes = λ k o within. (good.1 k o within).1;
       start = ends.0;
       goal = ends.1;
-      path = path.0;
-      length = path.1;
+      path = points.0;
+      length = points.1;
     }))))))
 
 pub fits_where_read : (bytes : List ℕ) (d : FirstDocument) → first_of bytes ≡ Some (document_seen d) → Fits d
 unfolding first_of
 fits_where_read bytes d found =
-    let text = under (nat_le (length bytes) most_bytes && is_utf8 bytes) (option_and_then first_from (json.read bytes)) (document_seen d) found in
+    let text = under (nat_le (length bytes) most_bytes && is_utf8 bytes) (option_and_then document_of (json.read bytes)) (document_seen d) found in
     let small : length bytes ≤ most_bytes = leb-true (length bytes) most_bytes (and_parts _ _ text.0).0 in
-    option_and_then_some first_from (json.read bytes) (document_seen d) text.1 (λ v read_as members. members_kept v d members (omega (arith, values_of_text bytes v read_as)))
+    option_and_then_some document_of (json.read bytes) (document_seen d) text.1 (λ v read_as members. members_kept v d members (omega (arith, values_of_text bytes v read_as)))

@@ -4,4 +4,4 @@ pub mod Lists
 pub mod Texts
 pub mod Fits
 pub mod Tokens
-pub mod Values
+pub mod Lengths

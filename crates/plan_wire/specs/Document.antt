@@ -1,4 +1,5 @@
 -- The first documents: a robot and obstacles of three spots each, and a path of whole-number points, as a function of the JSON value that the bytes are read as.
+-- What ends in `_of` reads one value, what ends in `_from` the elements of a list, and `first_of` the bytes.
 use Rattle.std.specs.Prelude.{ℕ, ◌&&◌, not, Bool, true, false, ℤ, pos, neg_ℤ, int_lt, int_le, nat_le, nat_eq, List, [], ◌∷◌, length, codes, Option, Some, None, option_map, option_and_then, is_none, if◌then◌else◌}
 use Rattle.std.specs.List.{list_all}
 use Rattle.std.specs.Str.{is_utf8}
@@ -21,17 +22,20 @@ pub record First : Type 0 where
 abbrev pub most_bytes : ℕ
 most_bytes = 4194304
 
+-- ---- values that are read one after another
+
+-- what f reads of the value, or none where there is no value
+abbrev pub bind : {A B : Type 0} → Option A → (A → Option B) → Option B
+bind o f = option_and_then f o
+
 -- the value, where the test holds
 abbrev pub given : {A : Type 0} → (A → Bool) → A → Option A
 given test a = if test a then Some a else None
 
--- a whole number of JSON, from low to high
-unfoldable pub whole : ℤ → ℤ → Data → Option ℤ
-whole low high v = option_and_then (given (λ z. int_le low z && int_le z high)) (option_and_then as_i64 (as_number v))
-
--- a whole number from -limit to limit
-unfoldable pub within : ℕ → Data → Option ℤ
-within limit v = whole (neg_ℤ (pos limit)) (pos limit) v
+-- what each of them is read as, or none where one is not
+abbrev pub each : {A B : Type 0} → (A → Option B) → List A → Option (List B)
+each f [] = Some []
+each f (a ∷ rest) = bind (f a) (λ b. option_map (λ bs. b ∷ bs) (each f rest))
 
 abbrev pub list_of : Items → List Data
 list_of no_items = []
@@ -41,77 +45,107 @@ list_of (item v vs) = v ∷ list_of vs
 unfoldable pub elements : Data → Option (List Data)
 elements v = option_map list_of (as_array v)
 
--- what each of them is read as, or none where one is not
-abbrev pub each : {A B : Type 0} → (A → Option B) → List A → Option (List B)
-each f [] = Some []
-each f (a ∷ rest) = option_and_then (λ b. option_map (λ bs. b ∷ bs) (each f rest)) (f a)
+-- what the member of this name is read as
+abbrev pub member : {A : Type 0} → List ℕ → (Data → Option A) → Data → Option A
+member name f v = bind (get name v) f
 
--- two whole numbers from -limit to limit
-unfoldable pub spot_from : ℕ → List Data → Option Vector
-spot_from limit (x ∷ y ∷ []) = option_and_then (λ x. option_map (λ y. spot x y) (within limit y)) (within limit x)
-spot_from limit _ = None
+-- ---- numbers and spots
 
--- a spot of a shape: a list of two whole numbers from -1023 to 1023
+-- a whole number of JSON, from low to high
+unfoldable pub whole : ℤ → ℤ → Data → Option ℤ
+whole low high v = bind (bind (as_number v) as_i64) (given (λ z. int_le low z && int_le z high))
+
+-- a whole number from -limit to limit
+unfoldable pub within : ℕ → Data → Option ℤ
+within limit v = whole (neg_ℤ (pos limit)) (pos limit) v
+
+-- the spot of two whole numbers from -limit to limit
+unfoldable pub spot_at : ℕ → Data → Data → Option Vector
+spot_at limit x y = bind (within limit x) (λ x. bind (within limit y) (λ y. Some (spot x y)))
+
+-- ---- shapes: x and y from -1023 to 1023 of three spots that are not in one line
+
+unfoldable pub spot_from : List Data → Option Vector
+spot_from (x ∷ y ∷ []) = spot_at 1023 x y
+spot_from _ = None
+
 unfoldable pub spot_of : Data → Option Vector
-spot_of v = option_and_then (spot_from 1023) (elements v)
+spot_of v = bind (elements v) spot_from
 
--- three spots that are not in one line
 abbrev pub is_triangle : List Vector → Bool
 is_triangle (a ∷ b ∷ c ∷ []) = not (int_eq (turn a b c) (pos 0))
 is_triangle _ = false
 
 unfoldable pub shape_of : Data → Option (List Vector)
-shape_of v = option_and_then (given is_triangle) (option_and_then (each spot_of) (elements v))
+shape_of v = bind (bind (elements v) (each spot_of)) (given is_triangle)
 
--- x1, y1, x2, y2 with x1 < x2 and y1 < y2
+-- ---- frames: x and y from -1023 to 1023 of two corners, the first left of the second and below it
+
+abbrev pub is_frame : Frame → Bool
+is_frame f = int_lt f.low.x f.high.x && int_lt f.low.y f.high.y
+
 unfoldable pub frame_from : List Data → Option Frame
 frame_from (x1 ∷ y1 ∷ x2 ∷ y2 ∷ []) =
-    option_and_then (λ low. option_and_then (λ high. given (λ frame. int_lt frame.low.x frame.high.x && int_lt frame.low.y frame.high.y) (record { low = low; high = high })) (spot_from 1023 (x2 ∷ y2 ∷ []))) (spot_from 1023 (x1 ∷ y1 ∷ []))
+    bind (spot_at 1023 x1 y1) (λ low. bind (spot_at 1023 x2 y2) (λ high. given is_frame (record { low = low; high = high })))
 frame_from _ = None
 
--- start x, start y, goal x, goal y, from -2046 to 2046
-unfoldable pub query_from : List Data → Option (Vector × Vector)
-query_from (sx ∷ sy ∷ gx ∷ gy ∷ []) = option_and_then (λ start. option_map (λ goal. (start, goal)) (spot_from 2046 (gx ∷ gy ∷ []))) (spot_from 2046 (sx ∷ sy ∷ []))
-query_from _ = None
+unfoldable pub frame_of : Data → Option Frame
+frame_of v = bind (elements v) frame_from
 
--- a point of a path: x, y from -2046 to 2046, and the weight 1
-unfoldable pub point_from : List Data → Option Vector
-point_from (x ∷ y ∷ w ∷ []) = option_and_then (λ p. option_map (λ _. p) (whole (pos 1) (pos 1) w)) (spot_from 2046 (x ∷ y ∷ []))
-point_from _ = None
+-- ---- obstacles: at most 64, each an id from 1 to 65,535 and a shape, no two of one id
 
-unfoldable pub point_of : Data → Option Vector
-point_of v = option_and_then point_from (elements v)
-
--- an id from 1 to 65,535 and a shape
 abbrev pub natural : ℤ → ℕ
 natural (pos n) = n
 natural _ = 0
 
 unfoldable pub obstacle_of : Data → Option Obstacle
-obstacle_of v = option_and_then (λ id. option_map (λ shape. record { id = natural id; shape = shape }) (option_and_then shape_of (get (codes "shape") v))) (option_and_then (whole (pos 1) (pos 65535)) (get (codes "id") v))
+obstacle_of v =
+    bind (member (codes "id") (whole (pos 1) (pos 65535)) v) (λ id.
+    bind (member (codes "shape") shape_of v) (λ shape.
+    Some (record { id = natural id; shape = shape })))
 
--- at most 64 obstacles, no two of one id
 abbrev pub differ : List Obstacle → Bool
 differ [] = true
 differ (o ∷ os) = list_all (λ other. not (nat_eq o.id other.id)) os && differ os
 
 unfoldable pub obstacles_of : Data → Option (List Obstacle)
-obstacles_of v = option_and_then (given (λ os. nat_le (length os) 64 && differ os)) (option_and_then (each obstacle_of) (elements v))
+obstacles_of v = bind (bind (elements v) (each obstacle_of)) (given (λ os. nat_le (length os) 64 && differ os))
 
--- a certificate that has a path, and no chain beside it
+-- ---- queries: x and y from -2046 to 2046 of a start and of a goal
+
+unfoldable pub query_from : List Data → Option (Vector × Vector)
+query_from (sx ∷ sy ∷ gx ∷ gy ∷ []) = bind (spot_at 2046 sx sy) (λ start. bind (spot_at 2046 gx gy) (λ goal. Some (start, goal)))
+query_from _ = None
+
+unfoldable pub query_of : Data → Option (Vector × Vector)
+query_of v = bind (elements v) query_from
+
+-- ---- certificates: points by x and y from -2046 to 2046 and the weight 1, under `path`, and no `chain` beside it
+
+unfoldable pub point_from : List Data → Option Vector
+point_from (x ∷ y ∷ w ∷ []) = bind (spot_at 2046 x y) (λ p. bind (whole (pos 1) (pos 1) w) (λ _. Some p))
+point_from _ = None
+
+unfoldable pub point_of : Data → Option Vector
+point_of v = bind (elements v) point_from
+
 unfoldable pub path_of : Data → Option (List Vector)
-path_of v = option_and_then (λ path. if is_none (get (codes "chain") v) then option_and_then (each point_of) (elements path) else None) (get (codes "path") v)
+path_of v = bind (get (codes "path") v) (λ path. if is_none (get (codes "chain") v) then bind (elements path) (each point_of) else None)
 
--- the members of the document; all others are passed over
-unfoldable pub first_from : Data → Option First
-first_from v =
-    option_and_then (λ _. option_and_then (λ frame. option_and_then (λ robot. option_and_then (λ obstacles. option_and_then (λ query. option_map (λ path. record { scene = record { frame = frame; robot = robot; obstacles = obstacles }; start = query.0; goal = query.1; path = path }) (option_and_then path_of (get (codes "certificate") v)))
-    (option_and_then query_from (option_and_then elements (get (codes "query") v))))
-    (option_and_then obstacles_of (get (codes "obstacles") v)))
-    (option_and_then shape_of (get (codes "robot") v)))
-    (option_and_then frame_from (option_and_then elements (get (codes "frame") v))))
-    (option_and_then (whole (pos 1) (pos 1)) (get (codes "format") v))
+-- ---- the document
 
--- the document of bytes: at most 4,194,304 of them, in UTF-8, JSON with nesting to 127, and of this form
+-- by its members; all others are passed over
+unfoldable pub document_of : Data → Option First
+document_of v =
+    bind (member (codes "format") (whole (pos 1) (pos 1)) v) (λ _.
+    bind (member (codes "frame") frame_of v) (λ frame.
+    bind (member (codes "robot") shape_of v) (λ robot.
+    bind (member (codes "obstacles") obstacles_of v) (λ obstacles.
+    bind (member (codes "query") query_of v) (λ query.
+    bind (member (codes "certificate") path_of v) (λ path.
+    let scene : Scene = record { frame = frame; robot = robot; obstacles = obstacles } in
+    Some (record { scene = scene; start = query.0; goal = query.1; path = path })))))))
+
+-- of bytes: at most 4,194,304 of them, in UTF-8, JSON with nesting to 127, and of this form
 unfoldable pub first_of : List ℕ → Option First
-first_of bytes = if nat_le (length bytes) most_bytes && is_utf8 bytes then option_and_then first_from (read bytes) else None
+first_of bytes = if nat_le (length bytes) most_bytes && is_utf8 bytes then bind (read bytes) document_of else None
