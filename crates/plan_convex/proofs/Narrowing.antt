@@ -3,7 +3,7 @@ use Rattle.std.proofs.Common.{◌≡◌, ◌↔◌, inl, inr, ℤ, pos, ◌+ℤ�
 use Rattle.plan_exact.specs.Expr.{var, ◌⊕◌, ◌⊖◌, ◌⊗◌, neg}
 use Rattle.plan_exact.proofs.Laws.{linear}
 use Rattle.plan_exact.proofs.Ring.{ring}
-use Rattle.plan_exact.proofs.Signs.{mul_pos, mul_nonneg, mul_nonneg_nonpos, nonneg_of_pos, le_or_lt}
+use Rattle.plan_exact.proofs.Signs.{mul_pos, mul_nonneg, mul_nonneg_nonpos, le_of_lt, le_or_lt}
 use Rattle.plan_spec.specs.Weights.{Weights, IsInner}
 use Rattle.plan_grid.specs.Fraction.{Fraction}
 use Rattle.plan_convex.specs.declared.part.Part.{Part}
@@ -69,10 +69,10 @@ falls_positive p a b hp h k z i =
     )
 
 pub always_positive : (p : Part) (a b : ℤ) → pos 0 <ℤ a → pos 0 ≤ℤ b → IsWherePositive p a b (Some p)
-always_positive p a b h k z i = (λ m. m.0, λ m. (m, omega (arith, linear, mul_pos i.0 h, mul_nonneg (nonneg_of_pos i.1) k)))
+always_positive p a b h k z i = (λ m. m.0, λ m. (m, omega (arith, linear, mul_pos i.0 h, mul_nonneg (le_of_lt i.1) k)))
 
 pub never_positive : (p : Part) (a b : ℤ) → a ≤ℤ pos 0 → b ≤ℤ pos 0 → IsWherePositive p a b None
-never_positive p a b h k z i v = omega (arith, linear, mul_nonneg_nonpos (nonneg_of_pos i.0) h, mul_nonneg_nonpos (nonneg_of_pos i.1) k)
+never_positive p a b h k z i v = omega (arith, linear, mul_nonneg_nonpos (le_of_lt i.0) h, mul_nonneg_nonpos (le_of_lt i.1) k)
 
 -- ---- from the tests of the code
 pub not_positive : (a : ℤ) → (pos 0 <ℤ a → false ≡ true) → a ≤ℤ pos 0

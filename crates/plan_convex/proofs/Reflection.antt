@@ -15,7 +15,6 @@ use Rattle.plan_convex.specs.Walk.{InSum, corners}
 use Rattle.plan_grid.proofs.FormalSpots as S
 use Rattle.plan_grid.proofs.FormalSpots.{coordinates, Pair, P}
 use Rattle.plan_grid.proofs.Triangles.{corners_within, all_within, counterclockwise_from}
-use Rattle.plan_convex.proofs.Sums.{minusE}
 use Rattle.plan_convex.proofs.Triangle.{three_sides, inside_three, inside_turned}
 
 -- ---- from another corner on
@@ -58,7 +57,7 @@ opposite_side : (a b : Spot) (z p : Vector) → turn (spot_seen a) (spot_seen b)
 opposite_side a b z p =
     let zE : F.Vec = record { x = var 4; y = var 5; w = var 6 } in
     let pE : F.Vec = record { x = var 7; y = var 8; w = var 9 } in
-    ring (coordinates (a ∷ b ∷ []) ++ z.x ∷ z.y ∷ z.w ∷ p.x ∷ p.y ∷ p.w ∷ []) (F.det (S.seen (P 0)) (S.seen (P 1)) (minusE zE pE)) (F.det (S.seen (S.opposite (P 0))) (S.seen (S.opposite (P 1))) (minusE pE zE)) tt
+    ring (coordinates (a ∷ b ∷ []) ++ z.x ∷ z.y ∷ z.w ∷ p.x ∷ p.y ∷ p.w ∷ []) (F.det (S.seen (P 0)) (S.seen (P 1)) (F.minus zE pE)) (F.det (S.seen (S.opposite (P 0))) (S.seen (S.opposite (P 1))) (F.minus pE zE)) tt
 
 opposite_holds : (xs : List Spot) (z p : Vector) → IsCounterclockwise xs → Inside (spots_seen xs) (minus z p) ↔ Inside (spots_seen (map opposite xs)) (minus p z)
 opposite_holds [] z p h = absurd (let e = h.triangle.three in omega arith)

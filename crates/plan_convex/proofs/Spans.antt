@@ -6,7 +6,7 @@ use Rattle.plan_exact.specs.Sign.{is_negative, is_zero, is_positive}
 use Rattle.plan_exact.specs.Vectors.{Vector}
 use Rattle.plan_exact.proofs.Certificates.{lt_from}
 use Rattle.plan_exact.proofs.Laws.{linear, mul_comm}
-use Rattle.plan_exact.proofs.Signs.{signs, sign_of, sub_nonneg, mul_le_mul, zero_of_mul_left, mul_nonneg, nonneg_of_pos}
+use Rattle.plan_exact.proofs.Signs.{signs, sign_of, sub_nonneg, mul_le_mul, zero_of_mul_left, mul_nonneg, le_of_lt}
 use Rattle.plan_spec.specs.Vector.{IsPoint}
 use Rattle.plan_spec.specs.Boundary.{StrictlyInside}
 use Rattle.plan_spec.specs.Weights.{Weights, IsWeights, IsInner, weighted}
@@ -71,16 +71,16 @@ between_ends p hf ht less = (inside, open_part)
       | is_positive k ↦ omega (arith, linear)
       | is_negative k ↦ absurd (omega (arith, linear, hf.upto))
       | is_zero e ↦
-          let le = mul_nonneg (nonneg_of_pos hf.positive) (sub_nonneg ht.upto) in
+          let le = mul_nonneg (le_of_lt hf.positive) (sub_nonneg ht.upto) in
           let same : p.from.num ≡ p.from.den = omega (arith, linear) in
-          absurd (omega (arith, linear, less, mul_le_mul p.from.den (nonneg_of_pos hf.positive) ht.upto, mul_comm p.from.den p.to.den, ap (λ n. n *ℤ p.to.den) same))
+          absurd (omega (arith, linear, less, mul_le_mul p.from.den (le_of_lt hf.positive) ht.upto, mul_comm p.from.den p.to.den, ap (λ n. n *ℤ p.to.den) same))
     ]
 
     down : pos 0 <ℤ p.to.num
     down = elim (sign_of p.to.num) [
       | is_positive k ↦ k
       | is_negative k ↦ absurd (omega (arith, linear, ht.nonneg))
-      | is_zero e ↦ absurd (omega (arith, linear, less, zero_of_mul_left p.to.num p.from.den e, mul_nonneg hf.nonneg (nonneg_of_pos ht.positive)))
+      | is_zero e ↦ absurd (omega (arith, linear, less, zero_of_mul_left p.to.num p.from.den e, mul_nonneg hf.nonneg (le_of_lt ht.positive)))
     ]
 
     inside : IsInner (between p)
@@ -97,7 +97,7 @@ pub not_outside : (a b : Vector) (vs : List Vector) (p : Part) → IsPoint a →
 not_outside a b vs p ha hb hf ht less c none =
     let i = between_ends p hf ht less in
     let z = between p in
-    let w : IsWeights (between p) = record { first = nonneg_of_pos i.0.0; second = nonneg_of_pos i.0.1; some = omega (arith, linear, i.0.0, i.0.1) } in
+    let w : IsWeights (between p) = record { first = le_of_lt i.0.0; second = le_of_lt i.0.1; some = omega (arith, linear, i.0.0, i.0.1) } in
     none (weighted a b z) (weights_point a b z ha hb w) (on_combination z.s z.t a b w.first w.second) ((c z i.0).1 i.1)
 
 -- ---- in other terms

@@ -26,13 +26,10 @@ pub record IsSum (A B : List Spot) (v : Spot) : Type 0 where
   pub first : Inside (spots_seen A) (spot_seen part)
   pub second : Inside (spots_seen B) (spot_seen (way part v))
 
-abbrev pub minusE : F.Vec → F.Vec → F.Vec
-minusE z p = record { x = z.x ⊗ p.w ⊖ p.x ⊗ z.w; y = z.y ⊗ p.w ⊖ p.y ⊗ z.w; w = z.w ⊗ p.w }
-
 pub sum_has : (A B : List Spot) (v : Spot) → IsSum A B v → InSum (spots_seen A) (spots_seen B) (spot_seen v)
 sum_has A B v h =
     let e : minus (spot_seen v) (spot_seen h.part) ≡ spot_seen (way h.part v) =
-    ring_vectors (coordinates (h.part ∷ v ∷ [])) (minusE (S.seen (P 1)) (S.seen (P 0))) (S.seen (S.way (P 0) (P 1))) tt in
+    ring_vectors (coordinates (h.part ∷ v ∷ [])) (F.minus (S.seen (P 1)) (S.seen (P 0))) (S.seen (S.way (P 0) (P 1))) tt in
     (spot_seen h.part, omega (arith, linear), h.first, subst (Inside (spots_seen B)) (sym e) h.second)
 
 -- ---- combinations
@@ -71,7 +68,7 @@ module _ (a b c : Spot) (p : Vector) (turns : pos 0 <ℤ cross (way a b) (way a 
       let k = weightsE (Z 8) in
       le_from (places (a ∷ b ∷ c ∷ s ∷ t ∷ u ∷ v ∷ w ∷ []) p) (con (pos 1))
       ((Z 8).w ⊗ (k.x ⊗ l (S.seen (S.way (P 5) (P 0))) ⊕ k.y ⊗ l (S.seen (S.way (P 6) (P 1))) ⊕ k.w ⊗ l (S.seen (S.way (P 7) (P 2)))))
-      F.zero (l (minusE (Z 8) (weightedE (Z 8) (P 5) (P 6) (P 7)))) tt (search signs) (search signs)
+      F.zero (l (F.minus (Z 8) (weightedE (Z 8) (P 5) (P 6) (P 7)))) tt (search signs) (search signs)
 
   combined_point : (u v w : Spot) → IsPoint (weighted a b c p u v w)
   combined_point u v w =
@@ -100,7 +97,7 @@ beside_sum : (v w d : Spot) (x z : Vector) → IsPoint x → IsPoint z → pos 0
 beside_sum v w d x z hx hz first second =
     let zE : F.Vec = record { x = var 9; y = var 10; w = var 11 } in
     le_from (coordinates (v ∷ w ∷ d ∷ []) ++ x.x ∷ x.y ∷ x.w ∷ z.x ∷ z.y ∷ z.w ∷ []) zE.w
-    ((Z 3).w ⊗ S.beside (P 0) (P 2) zE ⊕ S.beside (P 1) (P 2) (minusE (Z 3) zE))
+    ((Z 3).w ⊗ S.beside (P 0) (P 2) zE ⊕ S.beside (P 1) (P 2) (F.minus (Z 3) zE))
     F.zero (S.beside (S.plus (P 0) (P 1)) (P 2) (Z 3)) tt hz (search signs)
 
 -- the line in the direction d through the sum of two corners, where both triangles are on or left of it

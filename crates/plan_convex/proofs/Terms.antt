@@ -6,7 +6,7 @@ use lib.Signed.{non_neg}
 use Rattle.std.proofs.lemmas.Int.{ints}
 use Rattle.std.proofs.lemmas.Nat.Gcd.{le_of_dvd}
 use Rattle.plan_exact.proofs.Laws.{linear, mul_comm}
-use Rattle.plan_exact.proofs.Signs.{mul_nonneg, mul_le_mul, nonneg_of_mul, nonneg_of_pos, le_of_mul}
+use Rattle.plan_exact.proofs.Signs.{mul_nonneg, mul_le_mul, nonneg_of_mul, le_of_lt, le_of_mul}
 use Rattle.plan_grid.specs.Fraction.{Fraction, SameValue, IsRatio}
 use Rattle.plan_grid.proofs.Unique.{den_divides}
 use Rattle.plan_convex.specs.Parameter.{IsParameter}
@@ -27,8 +27,8 @@ pub in_terms : (r p : Fraction) → IsRatio r → SameValue r p → IsParameter 
 in_terms r p hr same hp =
     let rd : pos 0 <ℤ r.den = omega (arith, linear, hr.positive) in
     let pd = hp.share.positive in
-    let n = mul_nonneg hp.share.nonneg (nonneg_of_pos rd) in
-    let u = mul_le_mul r.den (nonneg_of_pos rd) hp.share.upto in
+    let n = mul_nonneg hp.share.nonneg (le_of_lt rd) in
+    let u = mul_le_mul r.den (le_of_lt rd) hp.share.upto in
     record {
       nonneg = nonneg_of_mul pd (omega (arith, linear, n, same, mul_comm p.den r.num));
       upto = le_of_mul r.num r.den p.den pd (omega (arith, linear, u, same, mul_comm p.den r.den));

@@ -1,5 +1,4 @@
 mod Pairs
 mod EndOrder
 mod Found
-mod HalfOpen
 pub mod ParityLaw

@@ -1,5 +1,5 @@
 -- An end of a segment as a point of the plane.
-use Rattle.plan_exact.specs.Vectors.{Vector}
+use Rattle.plan_spec.specs.Vector.{Vector}
 use Rattle.plan_cross.specs.declared.ends.End.{End}
 
 abbrev pub end_vector : End → Vector

@@ -1,6 +1,6 @@
 -- The ends of a list of segments, and lists that are made of equal pairs.
 use Rattle.std.specs.Prelude.{◌≡◌, List, [], ◌∷◌}
-use Rattle.plan_exact.specs.Vectors.{Vector}
+use Rattle.plan_spec.specs.Vector.{Vector}
 use Rattle.plan_spec.specs.Segment.{Segment}
 
 abbrev pub ends : List Segment → List Vector

@@ -3,4 +3,4 @@ use Rattle.plan_spec.specs.Segment as spec
 use Rattle.plan_cross.specs.declared.segment.Segment.{Segment}
 
 abbrev pub segment_seen : Segment → spec.Segment
-segment_seen s = record { a = s.a; b = s.b }
+segment_seen s = spec.segment s.a s.b

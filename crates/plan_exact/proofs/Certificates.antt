@@ -1,10 +1,10 @@
--- Inequalities between polynomials, by certificates: a fact known of expressions, made of others by sums and products, gives another as soon as the two are one polynomial, up to a positive factor.
+-- Inequalities between polynomials, by certificates: a fact known of expressions, made of others by sums and products, gives another as soon as the two are one polynomial, up to a positive factor. Nothing cites `absurd_by` yet: it is stock for boundaries.
 use Rattle.std.proofs.Common.{◌≡◌, ℤ, pos, ◌-ℤ◌, ◌*ℤ◌, ◌≤ℤ◌, ◌<ℤ◌, T, List, sym, ap, ◌∙◌, subst, arith}
 use Rattle.std.proofs.lemmas.Int.{ints}
 use Rattle.plan_exact.specs.Expr.{Expr, con, ◌⊕◌, ◌⊖◌, ◌⊗◌, eval, same}
 use Rattle.plan_exact.proofs.Laws.{linear}
 use Rattle.plan_exact.proofs.Ring.{ring}
-use Rattle.plan_exact.proofs.Signs.{mul_nonneg, mul_pos, mul_zero, square_nonneg, nonneg_of_mul, pos_of_mul, zero_of_mul}
+use Rattle.plan_exact.proofs.Signs.{mul_nonneg, mul_zero, nonneg_of_mul, pos_of_mul, zero_of_mul}
 
 pub record NonNegative (xs : List ℤ) (e : Expr) : Type 0 where
   pub nonneg : pos 0 ≤ℤ eval xs e
@@ -19,36 +19,22 @@ pub record Zero (xs : List ℤ) (e : Expr) : Type 0 where
 pub from_le : (xs : List ℤ) (a b : Expr) → eval xs a ≤ℤ eval xs b → NonNegative xs (b ⊖ a)
 from_le xs a b h = record { nonneg = omega (arith, linear) }
 
-pub from_lt : (xs : List ℤ) (a b : Expr) → eval xs a <ℤ eval xs b → Positive xs (b ⊖ a)
-from_lt xs a b h = record { positive = omega (arith, linear) }
-
 pub from_eq : (xs : List ℤ) (a b : Expr) → eval xs a ≡ eval xs b → Zero xs (a ⊖ b)
 from_eq xs a b h = record { zero = omega (arith, linear) }
-
-pub square : (xs : List ℤ) (a : Expr) → NonNegative xs (a ⊗ a)
-square xs a = record { nonneg = square_nonneg (eval xs a) }
 
 pub one : (xs : List ℤ) → Positive xs (con (pos 1))
 one xs = record { positive = omega (arith, ints) }
 
 -- ---- sums and products
-pub weak : {xs : List ℤ} {a : Expr} → Positive xs a → NonNegative xs a
-weak p = let h = p.positive in record { nonneg = omega (arith, linear) }
 
 pub add : {xs : List ℤ} {a b : Expr} → NonNegative xs a → NonNegative xs b → NonNegative xs (a ⊕ b)
 add p q = let h = p.nonneg in let k = q.nonneg in record { nonneg = omega (arith, linear) }
-
-pub add_positive : {xs : List ℤ} {a b : Expr} → Positive xs a → NonNegative xs b → Positive xs (a ⊕ b)
-add_positive p q = let h = p.positive in let k = q.nonneg in record { positive = omega (arith, linear) }
 
 pub add_zero : {xs : List ℤ} {a b : Expr} → Zero xs a → Zero xs b → Zero xs (a ⊕ b)
 add_zero p q = let h = p.zero in let k = q.zero in record { zero = omega (arith, linear) }
 
 pub multiply : {xs : List ℤ} {a b : Expr} → NonNegative xs a → NonNegative xs b → NonNegative xs (a ⊗ b)
 multiply p q = record { nonneg = mul_nonneg p.nonneg q.nonneg }
-
-pub multiply_positive : {xs : List ℤ} {a b : Expr} → Positive xs a → Positive xs b → Positive xs (a ⊗ b)
-multiply_positive p q = record { positive = mul_pos p.positive q.positive }
 
 -- a multiple of what is 0, by anything
 pub multiple : {xs : List ℤ} {a : Expr} (e : Expr) → Zero xs a → Zero xs (e ⊗ a)

@@ -1,7 +1,6 @@
 -- Two expressions that are one polynomial have the same value, at any integers.
 use Rattle.std.proofs.Common.{◌≡◌, ℕ, zero, suc, ℤ, pos, negsuc, ◌+◌, ◌*◌, ◌/◌, ◌%◌, ◌^◌, ◌≤◌, ◌<◌, max, ◌+ℤ◌, ◌-ℤ◌, ◌*ℤ◌, neg_ℤ, Bool, true, false, T, ltb, eqb, ◌&&◌, List, [], ◌∷◌, refl, sym, ap, ap₂, ◌∙◌, subst, arith, eqb→eq, ltb→lt}
 use Rattle.std.proofs.lemmas.Int.{ints}
-use borrow.Author.Differences.{up, down}
 use Rattle.plan_exact.specs.Expr.{Expr, var, con, ◌⊕◌, ◌⊖◌, ◌⊗◌, neg, at_index, eval, degree, Poly, nil, term, keep, merge, plus, scale, times, count, product, negate, norm, is_nil, same}
 use Rattle.plan_exact.proofs.Laws.{mul_comm, mul_add, mul_assoc, neg_mul, one_mul, zero_mul, add_mul, linear}
 
@@ -213,28 +212,6 @@ zero_of xs (term m c p) t = absurd t
 both : (a b : Bool) → T (a && b) → T a × T b
 both true b t = (tt, t)
 both false b t = absurd t
-
--- ---- an expression's value, written out over the naturals as a sum of multiples of monomials, for `omega (arith, orders, ..)`, which takes each monomial for an unknown
-abbrev pub positive_part : List ℤ → Poly → ℕ
-positive_part xs nil = 0
-positive_part xs (term m (pos n) p) = n * up (mono xs m) + positive_part xs p
-positive_part xs (term m (negsuc n) p) = suc n * down (mono xs m) + positive_part xs p
-
-abbrev pub negative_part : List ℤ → Poly → ℕ
-negative_part xs nil = 0
-negative_part xs (term m (pos n) p) = n * down (mono xs m) + negative_part xs p
-negative_part xs (term m (negsuc n) p) = suc n * up (mono xs m) + negative_part xs p
-
-parts : (xs : List ℤ) (p : Poly) → up (value xs p) + negative_part xs p ≡ down (value xs p) + positive_part xs p
-parts xs nil = refl
-parts xs (term m (pos n) p) = omega (arith, linear, parts xs p)
-parts xs (term m (negsuc n) p) = omega (arith, linear, parts xs p)
-
-pub expand : (xs : List ℤ) (e : Expr) → T (ltb (degree e) 64) → up (eval xs e) + negative_part xs (norm e) ≡ down (eval xs e) + positive_part xs (norm e)
-unfolding Meets
-expand xs e t =
-    let s = (meets xs e (ltb→lt (degree e) 64 t)).0 in
-    subst (λ y. up y + negative_part xs (norm e) ≡ down y + positive_part xs (norm e)) s (parts xs (norm e))
 
 pub ring : (xs : List ℤ) (a b : Expr) → T (same a b) → eval xs a ≡ eval xs b
 unfolding Meets

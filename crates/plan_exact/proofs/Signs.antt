@@ -1,5 +1,6 @@
 -- The signs of products over ℤ. `omega (arith, linear)` takes a product for an unknown: hand it these lemmas' facts.
-use Rattle.std.proofs.Common.{◌≡◌, ◌↔◌, ◌⊎◌, inl, inr, ℕ, zero, suc, ℤ, pos, negsuc, ◌*◌, ◌<◌, ◌-ℤ◌, ◌+ℤ◌, ◌*ℤ◌, neg_ℤ, ◌≤ℤ◌, ◌<ℤ◌, refl, ap, ◌∙◌, arith}
+-- Those that nothing cites yet (`mul_nonpos`, `square_pos`, `lt_of_mul`) are stock for boundaries and triangulations.
+use Rattle.std.proofs.Common.{◌≡◌, ◌⊎◌, inl, inr, ℕ, zero, suc, ℤ, pos, negsuc, ◌*◌, ◌<◌, ◌-ℤ◌, ◌+ℤ◌, ◌*ℤ◌, neg_ℤ, ◌≤ℤ◌, ◌<ℤ◌, refl, ap, ◌∙◌, arith}
 use Rattle.std.proofs.lemmas.Int.{ints}
 use Rattle.plan_exact.specs.Sign.{Sign, is_negative, is_zero, is_positive, Order, is_less, is_equal, is_greater}
 use Rattle.plan_exact.proofs.Laws.{mul_comm, mul_add, neg_mul, one_mul, zero_mul, linear}
@@ -18,11 +19,6 @@ order_of a b = by (sign_of (a -ℤ b))
     by (is_zero h) = is_equal (omega (arith, linear))
     by (is_positive h) = is_greater (omega (arith, linear))
 
-pub nonneg_or_neg : (a : ℤ) → (pos 0 ≤ℤ a) ⊎ (a <ℤ pos 0)
-nonneg_or_neg (pos n) = inl (omega (arith, ints))
-nonneg_or_neg (negsuc n) = inr (omega (arith, ints))
-
--- of two integers, the one is at most the other, or greater
 pub le_or_lt : (a b : ℤ) → (a ≤ℤ b) ⊎ (b <ℤ a)
 le_or_lt a b = by (order_of a b)
   where
@@ -39,8 +35,8 @@ le_or_ge a b = by (order_of a b)
     by (is_equal h) = inl (omega (arith, linear))
     by (is_greater h) = inr (omega (arith, linear))
 
-pub weaken : {a b : ℤ} → a <ℤ b → a ≤ℤ b
-weaken h = omega (arith, linear)
+pub le_of_lt : {a b : ℤ} → a <ℤ b → a ≤ℤ b
+le_of_lt h = omega (arith, linear)
 
 -- ---- signs of a product
 pub mul_nonneg : {a b : ℤ} → pos 0 ≤ℤ a → pos 0 ≤ℤ b → pos 0 ≤ℤ (a *ℤ b)
@@ -95,7 +91,7 @@ mul_neg_neg {a} {b} h k =
 
 -- ---- the sign of a factor, from that of the product and of the other factor
 pub nonneg_of_mul : {a b : ℤ} → pos 0 <ℤ a → pos 0 ≤ℤ (a *ℤ b) → pos 0 ≤ℤ b
-nonneg_of_mul {a} {b} h k = by (nonneg_or_neg b)
+nonneg_of_mul {a} {b} h k = by (le_or_lt (pos 0) b)
   where
     by : (pos 0 ≤ℤ b) ⊎ (b <ℤ pos 0) → pos 0 ≤ℤ b
     by (inl p) = p
@@ -182,17 +178,7 @@ square_pos a h = by (sign_of a)
     by (is_negative n) = mul_neg_neg n n
     by (is_positive p) = mul_pos p p
 
-pub zero_of_square : (a : ℤ) → a *ℤ a ≡ pos 0 → a ≡ pos 0
-zero_of_square a e = by (sign_of a)
-  where
-    by : Sign a → a ≡ pos 0
-    by (is_zero z) = z
-    by (is_negative n) = absurd (omega (arith, linear, mul_neg_neg n n))
-    by (is_positive p) = absurd (omega (arith, linear, mul_pos p p))
-
 -- ---- sums and negations, and what `search signs` needs to show that an integer made of such parts is not negative, or positive
-pub nonneg_of_pos : {a : ℤ} → pos 0 <ℤ a → pos 0 ≤ℤ a
-nonneg_of_pos h = omega (arith, linear)
 
 pub add_nonneg : {a b : ℤ} → pos 0 ≤ℤ a → pos 0 ≤ℤ b → pos 0 ≤ℤ (a +ℤ b)
 add_nonneg h k = omega (arith, linear)
@@ -215,7 +201,7 @@ sub_nonneg h = omega (arith, linear)
 pub sub_pos : {a b : ℤ} → a <ℤ b → pos 0 <ℤ (b -ℤ a)
 sub_pos h = omega (arith, linear)
 
-pub ruleset signs = (sub_pos, sub_nonneg, add_pos, add_nonneg_pos, mul_pos, neg_pos, add_nonneg, mul_nonneg, neg_nonneg, square_nonneg, nonneg_of_pos)
+pub ruleset signs = (sub_pos, sub_nonneg, add_pos, add_nonneg_pos, mul_pos, neg_pos, add_nonneg, mul_nonneg, neg_nonneg, square_nonneg, le_of_lt)
 
 -- ---- what `search zeros` needs to show that an integer is 0, from such parts
 pub add_zeros : (a b : ℤ) → a ≡ pos 0 → b ≡ pos 0 → a +ℤ b ≡ pos 0
@@ -229,8 +215,12 @@ zero_of_mul_left a b h = mul_comm a b ∙ mul_of_zero b a h
 
 pub ruleset zeros = (add_zeros, mul_of_zero, zero_of_mul_left)
 
-pub mul_le_iff : (a b c : ℤ) → pos 0 <ℤ c → ((a *ℤ c) ≤ℤ (b *ℤ c)) ↔ (a ≤ℤ b)
-mul_le_iff a b c h = (λ k. le_of_mul a b c h k, λ k. mul_le_mul c (nonneg_of_pos h) k)
+-- ---- earlier names, which go when nothing cites them: `le_of_lt`, and `le_or_lt (pos 0)`
+pub nonneg_of_pos : {a : ℤ} → pos 0 <ℤ a → pos 0 ≤ℤ a
+nonneg_of_pos h = le_of_lt h
 
-pub mul_lt_iff : (a b c : ℤ) → pos 0 <ℤ c → ((a *ℤ c) <ℤ (b *ℤ c)) ↔ (a <ℤ b)
-mul_lt_iff a b c h = (λ k. lt_of_mul a b c h k, λ k. mul_lt_mul c h k)
+pub weaken : {a b : ℤ} → a <ℤ b → a ≤ℤ b
+weaken h = le_of_lt h
+
+pub nonneg_or_neg : (a : ℤ) → (pos 0 ≤ℤ a) ⊎ (a <ℤ pos 0)
+nonneg_or_neg a = le_or_lt (pos 0) a

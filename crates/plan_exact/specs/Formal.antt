@@ -1,4 +1,5 @@
--- The vectors of `specs.Vectors` as expressions, under the same names: what a proof by `ring` writes for them.
+-- The vectors of `specs.Vectors` as expressions, under the same names: what a proof by `ring` writes for them. Nothing cites `F` yet: it is
+-- stock for slabs.
 use Rattle.std.specs.Prelude.{ℕ, ◌+◌, ◌*◌, pos}
 use Rattle.plan_exact.specs.Expr.{Expr, var, con, ◌⊕◌, ◌⊖◌, ◌⊗◌, neg}
 
@@ -70,3 +71,7 @@ cross a b = record { x = a.y ⊗ b.w ⊖ a.w ⊗ b.y; y = a.w ⊗ b.x ⊖ a.x �
 
 abbrev pub det : Vec → Vec → Vec → Expr
 det a b c = dot (cross a b) c
+
+-- the point z, moved back by the point p
+abbrev pub minus : Vec → Vec → Vec
+minus z p = record { x = z.x ⊗ p.w ⊖ p.x ⊗ z.w; y = z.y ⊗ p.w ⊖ p.y ⊗ z.w; w = z.w ⊗ p.w }

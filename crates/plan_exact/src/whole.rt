@@ -5,7 +5,7 @@ use std::marker::Model;
 
 /// A whole number that is kept in 128 bits. Each operation asks that its result stays below 2^127 in absolute value,
 /// and gives it exactly.
-#[derive(Clone, Copy, Debug, PartialEq, Eq)]
+#[derive(Clone, Copy, Debug, PartialEq, Eq, PartialOrd, Ord)]
 pub struct Whole {
     value: i128,
 }
@@ -41,12 +41,14 @@ impl From<i64> for Whole {
 }
 
 impl Whole {
+    /// The number itself.
     pub fn get(self) -> i128
         ensures { result ≡ self }
     {
         self.value
     }
 
+    /// The sum. The absolute values together stay below 2^127.
     #[tactic(auto, using(crate::proofs::Sizes::sizes))]
     pub fn plus(self, b: Whole) -> Whole
         requires { unsigned_abs self + unsigned_abs b < 2 ^ 127 }
@@ -58,6 +60,7 @@ impl Whole {
         }
     }
 
+    /// The difference. The absolute values together stay below 2^127.
     #[tactic(auto, using(crate::proofs::Sizes::sizes))]
     pub fn minus(self, b: Whole) -> Whole
         requires { unsigned_abs self + unsigned_abs b < 2 ^ 127 }
@@ -69,6 +72,7 @@ impl Whole {
         }
     }
 
+    /// The product. The product of the absolute values stays below 2^127.
     #[tactic(auto, using(crate::proofs::Sizes::sizes))]
     pub fn times(self, b: Whole) -> Whole
         requires { unsigned_abs self * unsigned_abs b < 2 ^ 127 }
@@ -80,6 +84,7 @@ impl Whole {
         }
     }
 
+    /// The number of the other sign. The absolute value stays below 2^127, so it is not -2^127.
     #[tactic(auto, using(crate::proofs::Sizes::sizes))]
     pub fn negated(self) -> Whole
         requires { unsigned_abs self < 2 ^ 127 }
@@ -89,30 +94,35 @@ impl Whole {
         Whole { value: -self.value }
     }
 
+    /// Whether the number is above 0.
     pub fn is_positive(self) -> bool
         ensures { IsTrue result ↔ (pos 0 <ℤ self) }
     {
         self.value > 0
     }
 
+    /// Whether the number is below 0.
     pub fn is_negative(self) -> bool
         ensures { IsTrue result ↔ (self <ℤ pos 0) }
     {
         self.value < 0
     }
 
+    /// Whether the number is 0.
     pub fn is_zero(self) -> bool
         ensures { IsTrue result ↔ (self ≡ pos 0) }
     {
         self.value == 0
     }
 
+    /// Whether the number is less than `b`.
     pub fn is_below(self, b: Whole) -> bool
         ensures { IsTrue result ↔ (self <ℤ b) }
     {
         self.value < b.value
     }
 
+    /// Whether the number is less than `b`, or equal to it.
     pub fn is_at_most(self, b: Whole) -> bool
         ensures { IsTrue result ↔ (self ≤ℤ b) }
     {

@@ -2,14 +2,14 @@
 use Rattle.std.proofs.Common.{◌≡◌, ◌⊎◌, inl, inr, ℤ, pos, ◌+ℤ◌, ◌-ℤ◌, ◌*ℤ◌, ◌≤ℤ◌, ◌<ℤ◌, List, [], ◌∷◌, All, arith}
 use Rattle.std.proofs.lemmas.List.Elements.{All-head, All-tail, All-nil, All-cons}
 use Rattle.plan_exact.specs.Expr.{con, ◌⊕◌, ◌⊖◌, ◌⊗◌}
-use Rattle.plan_exact.specs.Vectors.{Vector, sum, scaled, dot, env}
+use Rattle.plan_exact.specs.Vectors.{sum, scaled, dot, env}
 use Rattle.plan_exact.specs.Formal as F
 use Rattle.plan_exact.specs.Formal.{A, B, C, J, K}
 use Rattle.plan_exact.proofs.Laws.{linear}
 use Rattle.plan_exact.proofs.Ring.{ring}
 use Rattle.plan_exact.proofs.RingVectors.{ring_vectors}
-use Rattle.plan_exact.proofs.Signs.{signs, zeros, mul_nonneg, mul_pos, nonneg_or_neg}
-use Rattle.plan_spec.specs.Vector.{IsPoint}
+use Rattle.plan_exact.proofs.Signs.{signs, zeros, mul_nonneg, mul_pos, le_or_lt}
+use Rattle.plan_spec.specs.Vector.{Vector, IsPoint}
 use Rattle.plan_plane.proofs.Segment.Between.{Between}
 
 -- on the way from z to d, and the nearer to z the larger n is; d may be a point, or a direction, with the weight 0
@@ -73,7 +73,7 @@ at_least n k hn hk =
 
 pub near_pos : (z d l : Vector) → Grows z d l → Near z d (λ p. pos 0 <ℤ dot l p)
 near_pos z d l (inr (h, k)) = record { least = pos 1; positive = omega (arith, linear); beyond = λ n b. let m : pos 0 ≤ℤ n = omega (arith, linear) in omega (arith, linear, step_value n z d l, mul_nonneg m h) }
-near_pos z d l (inl h) = elim (nonneg_or_neg (dot l d)) [
+near_pos z d l (inl h) = elim (le_or_lt (pos 0) (dot l d)) [
   | inl k ↦ record { least = pos 1; positive = omega (arith, linear); beyond = λ n b. let m : pos 0 ≤ℤ n = omega (arith, linear) in omega (arith, linear, step_value n z d l, at_least n (dot l z) m h) }
   | inr k ↦ record { least = pos 1 -ℤ dot l d; positive = omega (arith, linear); beyond = λ n b. let m : pos 0 ≤ℤ n = omega (arith, linear) in omega (arith, linear, step_value n z d l, at_least n (dot l z) m h) }
 ]

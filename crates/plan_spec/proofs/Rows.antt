@@ -1,15 +1,20 @@
--- The definitions, tried on worked cases: each line is computed.
-use Rattle.std.proofs.Common.{◌≡◌, ℤ, pos, negsuc, true, false, List, [], ◌∷◌, refl}
-use Rattle.plan_spec.specs.Vector.{spot, turn}
-use Rattle.plan_spec.specs.Segment.{Segment}
-use Rattle.plan_spec.specs.Parity.{parity}
-use Rattle.plan_spec.specs.Polygon.{counterclockwise_triangle}
+-- The definitions, tried on worked cases: each is computed.
+use Rattle.std.proofs.Common.{◌≡◌, inl, inr, ⊎_elim, ℤ, pos, negsuc, true, false, List, [], ◌∷◌, refl}
+use Rattle.std.specs.Int.Signed.{le_z_yes, lt_z_yes}
+use Rattle.plan_spec.specs.Vector.{Vector, spot, turn, minus, Same, Before}
+use Rattle.plan_spec.specs.Segment.{Segment, segment, On, Common}
+use Rattle.plan_spec.specs.Parity.{parity, counted}
+use Rattle.plan_spec.specs.Polygon.{counterclockwise_triangle, edges}
+use Rattle.plan_spec.specs.Frame.{Frame, OnOrBeyond}
+use Rattle.plan_spec.specs.Placement.{Scene}
 use Rattle.plan_spec.specs.Chain.{odd_end}
-use Rattle.plan_spec.specs.Route.{legs}
+use Rattle.plan_spec.specs.Route.{legs, StartsAt, EndsAt}
+use Rattle.plan_spec.specs.Reply.{empty_path, wrong_start, wrong_goal, IsFirstFault}
 
 abbrev flat : ℤ → ℤ → ℤ → ℤ → Segment
-flat ax ay bx by = record { a = spot ax ay; b = spot bx by }
+flat ax ay bx by = segment (spot ax ay) (spot bx by)
 
+-- ---- parity
 -- a box, by four sides: odd inside it, even beyond
 abbrev box : List Segment
 box = flat (pos 0) (pos 0) (pos 8) (pos 0) ∷ flat (pos 8) (pos 0) (pos 8) (pos 19) ∷ flat (pos 0) (pos 19) (pos 8) (pos 19) ∷ flat (pos 0) (pos 0) (pos 0) (pos 19) ∷ []
@@ -31,8 +36,8 @@ under_left_end = refl
 under_right_end : parity (flat (pos 0) (pos 2) (pos 4) (pos 2) ∷ []) (spot (pos 4) (pos 1)) ≡ false
 under_right_end = refl
 
-on_segment : parity (flat (pos 0) (pos 2) (pos 4) (pos 2) ∷ []) (spot (pos 2) (pos 2)) ≡ false
-on_segment = refl
+on_the_segment : parity (flat (pos 0) (pos 2) (pos 4) (pos 2) ∷ []) (spot (pos 2) (pos 2)) ≡ false
+on_the_segment = refl
 
 above_segment : parity (flat (pos 0) (pos 2) (pos 4) (pos 2) ∷ []) (spot (pos 2) (pos 3)) ≡ false
 above_segment = refl
@@ -41,6 +46,14 @@ above_segment = refl
 reversed : parity (flat (pos 4) (pos 2) (pos 0) (pos 2) ∷ []) (record { x = pos 1; y = pos 3; w = pos 2 }) ≡ true
 reversed = refl
 
+-- an end over the way's end counts, one over its start does not
+counted_at_goal : counted (spot (pos 0) (pos 0)) (spot (pos 4) (pos 0)) (spot (pos 4) (pos 1)) ≡ true
+counted_at_goal = refl
+
+counted_at_start : counted (spot (pos 0) (pos 0)) (spot (pos 4) (pos 0)) (spot (pos 0) (pos 1)) ≡ false
+counted_at_start = refl
+
+-- ---- chains
 -- the box is closed at its corners, whatever the triple; one side alone is not
 corner : odd_end box (record { x = pos 16; y = pos 38; w = pos 2 }) ≡ false
 corner = refl
@@ -48,16 +61,99 @@ corner = refl
 loose_end : odd_end (flat (pos 0) (pos 0) (pos 8) (pos 0) ∷ []) (record { x = pos 16; y = pos 0; w = pos 2 }) ≡ true
 loose_end = refl
 
--- a triangle in either direction of turning
-turned : counterclockwise_triangle (spot (pos 0) (pos 0) ∷ spot (pos 0) (pos 1) ∷ spot (pos 1) (pos 0) ∷ []) ≡ spot (pos 0) (pos 0) ∷ spot (pos 1) (pos 0) ∷ spot (pos 0) (pos 1) ∷ []
-turned = refl
-
+-- ---- points
 left_turn : turn (spot (pos 0) (pos 0)) (spot (pos 1) (pos 0)) (spot (pos 0) (pos 1)) ≡ pos 1
 left_turn = refl
 
+-- (1/2, 1) less (1/3, 1/3) is (1/6, 2/3)
+difference : minus (record { x = pos 1; y = pos 2; w = pos 2 }) (record { x = pos 1; y = pos 1; w = pos 3 }) ≡ record { x = pos 1; y = pos 4; w = pos 6 }
+difference = refl
+
+-- (1, 2) as two triples; and of one x the lower comes first
+same_position : Same (spot (pos 1) (pos 2)) (record { x = pos 3; y = pos 6; w = pos 3 })
+same_position = (refl, refl)
+
+lower_first : Before (spot (pos 1) (pos 2)) (record { x = pos 3; y = pos 7; w = pos 3 })
+lower_first = inr (refl, lt_z_yes tt)
+
+-- ---- segments
+-- the ends are on the segment, and so is a point between them
+on_end : On (flat (pos 0) (pos 2) (pos 4) (pos 2)) (spot (pos 4) (pos 2))
+on_end = record { in_line = refl; within_x = inl (le_z_yes tt, le_z_yes tt); within_y = inl (le_z_yes tt, le_z_yes tt) }
+
+on_middle : On (flat (pos 4) (pos 0) (pos 0) (pos 2)) (record { x = pos 4; y = pos 2; w = pos 2 })
+on_middle = record { in_line = refl; within_x = inr (le_z_yes tt, le_z_yes tt); within_y = inl (le_z_yes tt, le_z_yes tt) }
+
+-- beyond an end none is
+beyond_end : ¬ (On (flat (pos 0) (pos 2) (pos 4) (pos 2)) (spot (pos 5) (pos 2)))
+beyond_end h = ⊎_elim (λ w. w.1.le) (λ w. w.1.le) h.within_x
+
+-- beside the line none is
+beside_line : ¬ (On (flat (pos 0) (pos 2) (pos 4) (pos 2)) (spot (pos 2) (pos 3)))
+beside_line h = let e = h.in_line in absurd (cc)
+
+-- two that cross, and two that share an end
+crossed : Common (flat (pos 0) (pos 0) (pos 4) (pos 4)) (flat (pos 0) (pos 4) (pos 4) (pos 0))
+crossed = (spot (pos 2) (pos 2), lt_z_yes tt, record { in_line = refl; within_x = inl (le_z_yes tt, le_z_yes tt); within_y = inl (le_z_yes tt, le_z_yes tt) }, record { in_line = refl; within_x = inl (le_z_yes tt, le_z_yes tt); within_y = inr (le_z_yes tt, le_z_yes tt) })
+
+joined : Common (flat (pos 0) (pos 0) (pos 4) (pos 4)) (flat (pos 4) (pos 4) (pos 8) (pos 0))
+joined = (spot (pos 4) (pos 4), lt_z_yes tt, record { in_line = refl; within_x = inl (le_z_yes tt, le_z_yes tt); within_y = inl (le_z_yes tt, le_z_yes tt) }, record { in_line = refl; within_x = inl (le_z_yes tt, le_z_yes tt); within_y = inr (le_z_yes tt, le_z_yes tt) })
+
+-- ---- polygons
+-- a triangle in either direction of turning; no other list is one
+turned : counterclockwise_triangle (spot (pos 0) (pos 0) ∷ spot (pos 0) (pos 1) ∷ spot (pos 1) (pos 0) ∷ []) ≡ spot (pos 0) (pos 0) ∷ spot (pos 1) (pos 0) ∷ spot (pos 0) (pos 1) ∷ []
+turned = refl
+
+no_triangle : counterclockwise_triangle (spot (pos 0) (pos 0) ∷ spot (pos 0) (pos 1) ∷ []) ≡ []
+no_triangle = refl
+
+-- three vertices have three edges, the last back to the first
+three_edges : edges (spot (pos 0) (pos 0) ∷ spot (pos 1) (pos 0) ∷ spot (pos 0) (pos 1) ∷ []) ≡ flat (pos 0) (pos 0) (pos 1) (pos 0) ∷ flat (pos 1) (pos 0) (pos 0) (pos 1) ∷ flat (pos 0) (pos 1) (pos 0) (pos 0) ∷ []
+three_edges = refl
+
+-- ---- frames
+abbrev hall : Frame
+hall = record { low = spot (pos 0) (pos 0); high = spot (pos 10) (pos 8) }
+
+-- a side counts, the inside does not
+on_side : OnOrBeyond hall (spot (pos 5) (pos 8))
+on_side = inr (inr (inr (le_z_yes tt)))
+
+within : ¬ (OnOrBeyond hall (spot (pos 5) (pos 7)))
+within (inl h) = h.le
+within (inr (inl h)) = h.le
+within (inr (inr (inl h))) = h.le
+within (inr (inr (inr h))) = h.le
+
+-- ---- paths
 -- a path of one point has one segment, and of three points two
 one_leg : legs (spot (pos 2) (pos 2) ∷ []) ≡ flat (pos 2) (pos 2) (pos 2) (pos 2) ∷ []
 one_leg = refl
 
-two_legs : legs (spot (pos 0) (pos 0) ∷ spot (pos 2) (pos 2) ∷ spot (pos 5) (pos 5) ∷ []) ≡ flat (pos 0) (pos 0) (pos 2) (pos 2) ∷ flat (pos 2) (pos 2) (pos 5) (pos 5) ∷ []
+abbrev path : List Vector
+path = spot (pos 0) (pos 0) ∷ spot (pos 2) (pos 2) ∷ spot (pos 5) (pos 5) ∷ []
+
+two_legs : legs path ≡ flat (pos 0) (pos 0) (pos 2) (pos 2) ∷ flat (pos 2) (pos 2) (pos 5) (pos 5) ∷ []
 two_legs = refl
+
+-- it starts at its first point and ends at its last, whatever the triples
+starts : StartsAt (record { x = pos 0; y = pos 0; w = pos 3 }) path
+starts = (refl, refl)
+
+ends : EndsAt (record { x = pos 10; y = pos 10; w = pos 2 }) path
+ends = (refl, refl)
+
+-- ---- the first fault, in any scene
+nothing_there : (scene : Scene) → IsFirstFault scene (spot (pos 0) (pos 0)) (spot (pos 5) (pos 5)) [] empty_path
+nothing_there scene = refl
+
+-- from (1, 0) to (5, 4) the path starts wrong and ends wrong: the start is the fault, and the goal is not
+start_first : (scene : Scene) → IsFirstFault scene (spot (pos 1) (pos 0)) (spot (pos 5) (pos 4)) path wrong_start
+start_first scene = (λ e. absurd (cc), λ h. let e = h.0 in absurd (cc))
+
+goal_later : (scene : Scene) → ¬ (IsFirstFault scene (spot (pos 1) (pos 0)) (spot (pos 5) (pos 4)) path wrong_goal)
+goal_later scene h = let e = h.0.0 in absurd (cc)
+
+-- from (0, 0) to (5, 4) it ends wrong
+goal_missed : (scene : Scene) → IsFirstFault scene (spot (pos 0) (pos 0)) (spot (pos 5) (pos 4)) path wrong_goal
+goal_missed scene = ((refl, refl), λ h. let e = h.1 in absurd (cc))

@@ -1,7 +1,7 @@
 -- Chains of segments: closed, held, and what they block. A chain need not be one loop.
 use Rattle.std.specs.Prelude.{◌≡◌, Bool, true, false, List, [], ◌∷◌, All, Any}
 use Rattle.plan_spec.specs.Vector.{Vector, IsPoint, Same, same}
-use Rattle.plan_spec.specs.Segment.{Segment, On}
+use Rattle.plan_spec.specs.Segment.{Segment, On, AllOn}
 use Rattle.plan_spec.specs.Parity.{parity, xor}
 use Rattle.plan_spec.specs.Placement.{Scene, Touches}
 use Rattle.plan_spec.specs.Route.{OnRoute}
@@ -21,7 +21,7 @@ IsProper s = IsPoint s.a × IsPoint s.b × ¬ (Same s.a s.b)
 
 -- every point of every segment touches
 abbrev pub IsHeld : Scene → List Segment → Type 0
-IsHeld scene chain = All (λ s. (z : Vector) → IsPoint z → On s z → Touches scene z) chain
+IsHeld scene chain = All (AllOn (Touches scene)) chain
 
 -- closed and held, odd at s and even at g
 pub record Blocks (scene : Scene) (s g : Vector) (chain : List Segment) : Type 0 where

@@ -3,7 +3,8 @@ use Rattle.std.specs.Prelude.{pos, ◌*ℤ◌, Bool, true, false, ◌&&◌, ◌|
 use Rattle.plan_spec.specs.Vector.{Vector, turn}
 use Rattle.plan_spec.specs.Segment.{Segment}
 
--- whether the segment from its left end a to b stands over z: half open, so that a point under a common end counts once, and strictly above z
+-- whether the segment from its left end a to b stands over z: half open, so that a point under a common end counts once,
+-- and strictly above z
 abbrev pub over_from : Vector → Vector → Vector → Bool
 over_from a b z = int_le (a.x *ℤ z.w) (z.x *ℤ a.w) && (int_lt (z.x *ℤ b.w) (b.x *ℤ z.w) && int_lt (turn a b z) (pos 0))
 

@@ -31,5 +31,6 @@ Leaves robot frame p = (z : Vector) × IsPoint z × Holds robot (minus z p) × O
 abbrev pub Touches : Scene → Vector → Type 0
 Touches scene p = Leaves scene.robot scene.frame p ⊎ Any (λ o. Meets scene.robot o.shape p) scene.obstacles
 
+-- it does not touch
 abbrev pub IsClear : Scene → Vector → Type 0
 IsClear scene p = ¬ (Touches scene p)

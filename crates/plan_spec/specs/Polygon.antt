@@ -22,6 +22,10 @@ OnOrLeft z s = pos 0 ≤ℤ turn s.a s.b z
 abbrev pub Inside : List Vector → Vector → Type 0
 Inside vs z = All (OnOrLeft z) (edges vs)
 
+-- p and q are both strictly right of the line from s.a to s.b
+abbrev pub AreRight : Vector → Vector → Segment → Type 0
+AreRight p q s = (turn s.a s.b p <ℤ pos 0) × (turn s.a s.b q <ℤ pos 0)
+
 -- the vertex v is an end of the edge, or strictly left of it
 abbrev pub EndOrLeft : Segment → Vector → Type 0
 EndOrLeft s v = Same v s.a ⊎ (Same v s.b ⊎ (pos 0 <ℤ turn s.a s.b v))

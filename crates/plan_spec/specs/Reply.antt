@@ -1,7 +1,7 @@
 -- What makes a path an accepted certificate, and the first of its faults.
 use Rattle.std.specs.Prelude.{◌≡◌, ℕ, List, [], ◌<◌, slice_get, IfSome, IsSomeAnd}
-use Rattle.plan_spec.specs.Vector.{Vector, IsPoint}
-use Rattle.plan_spec.specs.Segment.{Segment, On}
+use Rattle.plan_spec.specs.Vector.{Vector}
+use Rattle.plan_spec.specs.Segment.{Segment, AnyOn}
 use Rattle.plan_spec.specs.Placement.{Scene, Touches}
 use Rattle.plan_spec.specs.Route.{legs, StartsAt, EndsAt}
 
@@ -14,14 +14,15 @@ pub data PathFault : Type 0 where
 
 -- some rational point of the segment touches
 abbrev pub SegmentTouches : Scene → Segment → Type 0
-SegmentTouches scene s = (z : Vector) × IsPoint z × On s z × Touches scene z
+SegmentTouches scene s = AnyOn (Touches scene) s
 
 -- segment k has a point that touches, and no segment before it has
 pub record FirstTouching (scene : Scene) (path : List Vector) (k : ℕ) : Type 0 where
   pub touching : IsSomeAnd (slice_get (legs path) k) (SegmentTouches scene)
   pub earlier : (j : ℕ) → j < k → IfSome (slice_get (legs path) j) (λ s. ¬ (SegmentTouches scene s))
 
--- the first fault of a path from s to g: it is empty; else it does not start at s; else it does not end at g; else its first segment that touches
+-- the first fault of a path from s to g: it is empty; else it does not start at s; else it does not end at g; else the
+-- first of its segments that touches
 abbrev pub IsFirstFault : Scene → Vector → Vector → List Vector → PathFault → Type 0
 IsFirstFault scene s g path empty_path = path ≡ []
 IsFirstFault scene s g path wrong_start = (¬ (path ≡ [])) × ¬ (StartsAt s path)

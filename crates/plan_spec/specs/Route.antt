@@ -9,6 +9,7 @@ abbrev pub segments_from : Vector → List Vector → List Segment
 segments_from p [] = []
 segments_from p (q ∷ qs) = segment p q ∷ segments_from q qs
 
+-- the segments between neighbours of the list
 abbrev pub segments : List Vector → List Segment
 segments [] = []
 segments (p ∷ ps) = segments_from p ps

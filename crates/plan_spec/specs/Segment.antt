@@ -21,9 +21,17 @@ pub record On (s : Segment) (z : Vector) : Type 0 where
   pub within_x : (LeX s.a z × LeX z s.b) ⊎ (LeX s.b z × LeX z s.a)
   pub within_y : (LeY s.a z × LeY z s.b) ⊎ (LeY s.b z × LeY z s.a)
 
+-- P holds of some rational point of the segment
+abbrev pub AnyOn : (Vector → Type 0) → Segment → Type 0
+AnyOn P s = (z : Vector) × IsPoint z × On s z × P z
+
+-- P holds of every rational point of the segment
+abbrev pub AllOn : (Vector → Type 0) → Segment → Type 0
+AllOn P s = (z : Vector) → IsPoint z → On s z → P z
+
 -- some rational point is on both segments
 abbrev pub Common : Segment → Segment → Type 0
-Common s t = (z : Vector) × IsPoint z × On s z × On t z
+Common s t = AnyOn (On t) s
 
 -- no segment of the list has a point in common with the path
 abbrev pub Misses : Segment → List Segment → Type 0

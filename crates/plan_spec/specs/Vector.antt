@@ -48,7 +48,8 @@ same p q = int_eq (p.x *ℤ q.w) (q.x *ℤ p.w) && int_eq (p.y *ℤ q.w) (q.y *�
 abbrev pub Before : Vector → Vector → Type 0
 Before p q = LtX p q ⊎ (SameX p q × LtY p q)
 
--- twice the signed area of a, b, c, times their three weights: positive where c is left of the line from a to b, 0 where the three are in line
+-- twice the signed area of a, b, c, times their three weights: positive where c is left of the line from a to b, 0 where
+-- the three are in line
 abbrev pub turn : Vector → Vector → Vector → ℤ
 turn a b c = det a b c
 

@@ -1,6 +1,7 @@
 -- Points of a segment by weights at its two ends, whatever the segment.
 use Rattle.std.specs.Prelude.{ℤ, pos, ◌+ℤ◌, ◌<ℤ◌, ◌≤ℤ◌}
-use Rattle.plan_exact.specs.Vectors.{Vector, sum, scaled}
+use Rattle.plan_exact.specs.Vectors.{sum, scaled}
+use Rattle.plan_spec.specs.Vector.{Vector}
 
 -- how much of the first end, and how much of the second
 pub record Weights : Type 0 where

@@ -1,2 +1,2 @@
-//! The definitions that every contract of the planner cites, and the laws about them alone. No code that runs.
+//! The definitions that every contract of the planner cites, and their worked cases. No code that runs.
 #![tactic(auto)]

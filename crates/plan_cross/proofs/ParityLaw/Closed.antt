@@ -1,22 +1,17 @@
 -- The parity law of closed chains: along a way that has no point of the chain, parity does not change. By steps it changes by the counted ends, and every end occurs an even number of times.
 use Rattle.std.proofs.Common.{◌≡◌, ◌⊎◌, inl, inr, ◌*ℤ◌, List, [], ◌∷◌, All, refl, sym, ap, ap₂, ◌∙◌}
 use Rattle.std.proofs.lemmas.List.Elements.{All-head, All-tail, All-cons, All-nil, All-weaker}
-use Rattle.plan_exact.specs.Vectors.{Vector}
-use Rattle.plan_spec.specs.Vector.{IsPoint, LeX, same}
+use Rattle.plan_spec.specs.Vector.{Vector, IsPoint, LeX, same}
 use Rattle.plan_spec.specs.Segment.{Segment, segment, HasPoints, Common, Misses}
 use Rattle.plan_spec.specs.Parity.{over, parity, xor, counted}
 use Rattle.plan_spec.specs.Chain.{odd_end, IsClosed}
 use Rattle.plan_plane.proofs.Segment.Reversed.{common_first}
 use Rattle.plan_exact.proofs.Signs.{le_or_ge}
+use Rattle.plan_cross.specs.Ends.{ends}
 use Rattle.plan_cross.proofs.ParityLaw.Xor.{xor_assoc, xor_middle, same_from_xor}
 use Rattle.plan_cross.proofs.ParityLaw.Position.{counted_same}
 use Rattle.plan_cross.proofs.ParityLaw.Step.{parity_step}
 use Rattle.plan_cross.proofs.ParityLaw.Tally.{tally, odd_in, even_tally}
-
--- the ends of the segments, in one list
-abbrev ends : List Segment → List Vector
-ends [] = []
-ends (s ∷ ss) = s.a ∷ (s.b ∷ ends ss)
 
 points : (chain : List Segment) → All HasPoints chain → All IsPoint (ends chain)
 points [] h = All-nil IsPoint
@@ -24,7 +19,7 @@ points (s ∷ ss) h =
     let k = All-head HasPoints s ss h in
     All-cons IsPoint s.a (s.b ∷ ends ss) k.0 (All-cons IsPoint s.b (ends ss) k.1 (points ss (All-tail HasPoints s ss h)))
 
-odd_end_is : (chain : List Segment) (z : Vector) → odd_in (ends chain) z ≡ odd_end chain z
+pub odd_end_is : (chain : List Segment) (z : Vector) → odd_in (ends chain) z ≡ odd_end chain z
 odd_end_is [] z = refl
 odd_end_is (s ∷ ss) z = ap (λ t. xor (same s.a z) (xor (same s.b z) t)) (odd_end_is ss z) ∙ sym (xor_assoc (same s.a z) (same s.b z) (odd_end ss z))
 

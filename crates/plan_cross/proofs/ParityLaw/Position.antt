@@ -2,14 +2,14 @@
 use Rattle.std.proofs.Common.{◌≡◌, ◌⊎◌, inl, inr, ℤ, pos, ◌-ℤ◌, ◌*ℤ◌, ◌≤ℤ◌, ◌<ℤ◌, Bool, ◌&&◌, ◌||◌, List, [], ◌∷◌, int_lt, int_le, refl, sym, ap₂, ◌∙◌, arith}
 use Rattle.std.proofs.lemmas.Bool.Decides.{same_from_decides}
 use Rattle.plan_exact.specs.Expr.{con, ◌⊖◌, ◌⊗◌}
-use Rattle.plan_exact.specs.Vectors.{Vector, env}
+use Rattle.plan_exact.specs.Vectors.{env}
 use Rattle.plan_exact.specs.Formal.{A, B, C}
 use Rattle.plan_exact.proofs.Laws.{linear, zero_mul}
 use Rattle.plan_exact.proofs.Ring.{ring}
 use Rattle.plan_exact.proofs.Certificates.{eq_from}
-use Rattle.plan_exact.proofs.Signs.{signs, zeros, nonneg_of_pos, mul_le_mul, mul_lt_mul, le_or_lt}
+use Rattle.plan_exact.proofs.Signs.{signs, zeros, le_of_lt, mul_le_mul, mul_lt_mul, le_or_lt}
 use Rattle.plan_exact.proofs.Tests.{le_true, le_false, lt_true, lt_false}
-use Rattle.plan_spec.specs.Vector.{IsPoint, Same, turn, same}
+use Rattle.plan_spec.specs.Vector.{Vector, IsPoint, Same, turn, same}
 use Rattle.plan_spec.specs.Segment.{Segment}
 use Rattle.plan_spec.specs.Parity.{over_from, over, parity, xor, counted}
 use Rattle.plan_plane.proofs.Segment.Same.{turn_same, same_true, same_from, Same-swapped, Same-trans}
@@ -19,14 +19,14 @@ scaled_le : (x y k : ℤ) → pos 0 <ℤ k → int_le x y ≡ int_le (x *ℤ k) 
 scaled_le x y k hk = by (le_or_lt x y)
   where
     by : (x ≤ℤ y) ⊎ (y <ℤ x) → int_le x y ≡ int_le (x *ℤ k) (y *ℤ k)
-    by (inl h) = le_true h ∙ sym (le_true (mul_le_mul k (nonneg_of_pos hk) h))
+    by (inl h) = le_true h ∙ sym (le_true (mul_le_mul k (le_of_lt hk) h))
     by (inr h) = le_false h ∙ sym (le_false (mul_lt_mul k hk h))
 
 scaled_lt : (x y k : ℤ) → pos 0 <ℤ k → int_lt x y ≡ int_lt (x *ℤ k) (y *ℤ k)
 scaled_lt x y k hk = by (le_or_lt y x)
   where
     by : (y ≤ℤ x) ⊎ (x <ℤ y) → int_lt x y ≡ int_lt (x *ℤ k) (y *ℤ k)
-    by (inl h) = lt_false h ∙ sym (lt_false (mul_le_mul k (nonneg_of_pos hk) h))
+    by (inl h) = lt_false h ∙ sym (lt_false (mul_le_mul k (le_of_lt hk) h))
     by (inr h) = lt_true h ∙ sym (lt_true (mul_lt_mul k hk h))
 
 -- x is to u as l is to k

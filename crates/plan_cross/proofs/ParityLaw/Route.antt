@@ -2,8 +2,7 @@
 use Rattle.std.proofs.Common.{◌≡◌, ◌⊎◌, inl, inr, true, false, List, [], ◌∷◌, All, Any, sym, subst, ◌∙◌}
 use Rattle.std.proofs.lemmas.Bool.{true≢false}
 use Rattle.std.proofs.lemmas.List.Elements.{All-head, All-tail, All-nil, All-cons, All-weaker}
-use Rattle.plan_exact.specs.Vectors.{Vector}
-use Rattle.plan_spec.specs.Vector.{IsPoint, Same}
+use Rattle.plan_spec.specs.Vector.{Vector, IsPoint, Same}
 use Rattle.plan_spec.specs.Segment.{Segment, On, segment, HasPoints, Common, Misses}
 use Rattle.plan_spec.specs.Parity.{parity}
 use Rattle.plan_spec.specs.Chain.{IsClosed, IsProper, Blocks, Crosses}
@@ -25,18 +24,18 @@ any_or_none path hp (s ∷ ss) h = by (common_or_not path s hp (All-head HasPoin
     by (inr n) (inr m) = inr (All-cons (λ s. ¬ (Common path s)) s ss n m)
 
 -- ---- along the route
-later : (p q : Vector) (qs : List Vector) (chain : List Segment) → Crosses (q ∷ qs) chain → Crosses (p ∷ q ∷ qs) chain
-later p q qs chain c = (c.0, c.1, by c.2, c.3)
+crosses_later : (p q : Vector) (qs : List Vector) (chain : List Segment) → Crosses (q ∷ qs) chain → Crosses (p ∷ q ∷ qs) chain
+crosses_later p q qs chain c = (c.0, c.1, by c.2, c.3)
   where
     by : OnRoute (q ∷ qs) c.0 → OnRoute (p ∷ q ∷ qs) c.0
     by (inl m) = inl (any_there (λ p. Same p c.0) p (q ∷ qs) m)
     by (inr m) = inr (any_there (λ s. On s c.0) (segment p q) (segments (q ∷ qs)) m)
 
-along : (chain : List Segment) (g : Vector) → All HasPoints chain → IsClosed chain → IsPoint g → parity chain g ≡ false → (p : Vector) (ps : List Vector) → All IsPoint (p ∷ ps) → parity chain p ≡ true → EndsAt g (p ∷ ps) → Crosses (p ∷ ps) chain
-along chain g h closed hg even p [] points odd ends =
+crosses_along : (chain : List Segment) (g : Vector) → All HasPoints chain → IsClosed chain → IsPoint g → parity chain g ≡ false → (p : Vector) (ps : List Vector) → All IsPoint (p ∷ ps) → parity chain p ≡ true → EndsAt g (p ∷ ps) → Crosses (p ∷ ps) chain
+crosses_along chain g h closed hg even p [] points odd ends =
     absurd (true≢false (sym odd ∙ parity_same chain p g (All-head IsPoint p [] points) hg ends ∙ even))
-along chain g h closed hg even p (q ∷ qs) points odd ends =
-    by (λ e. along chain g h closed hg even q qs rest e ends) (any_or_none (segment p q) (hp, hq) chain h)
+crosses_along chain g h closed hg even p (q ∷ qs) points odd ends =
+    by (λ e. crosses_along chain g h closed hg even q qs rest e ends) (any_or_none (segment p q) (hp, hq) chain h)
   where
     hp : IsPoint p
     hp = All-head IsPoint p (q ∷ qs) points
@@ -51,12 +50,12 @@ along chain g h closed hg even p (q ∷ qs) points odd ends =
     by go (inl m) =
         let c = m.4 in
         (c.0, c.1, inr (any_here (λ s. On s c.0) (segment p q) (segments (q ∷ qs)) c.2), (m.0, m.1, m.2, m.3, c.3))
-    by go (inr m) = later p q qs chain (go (sym (parity_constant chain p q h closed hp hq m) ∙ odd))
+    by go (inr m) = crosses_later p q qs chain (go (sym (parity_constant chain p q h closed hp hq m) ∙ odd))
 
 pub route_crosses : (chain : List Segment) (s g : Vector) (route : List Vector) → All HasPoints chain → IsClosed chain → IsPoint s → IsPoint g → parity chain s ≡ true → parity chain g ≡ false → IsRoute s g route → Crosses route chain
 route_crosses chain s g [] h closed hs hg odd even r = absurd r.starts
 route_crosses chain s g (p ∷ ps) h closed hs hg odd even r =
-    along chain g h closed hg even p ps r.points (parity_same chain p s (All-head IsPoint p ps r.points) hs r.starts ∙ odd) r.ends
+    crosses_along chain g h closed hg even p ps r.points (parity_same chain p s (All-head IsPoint p ps r.points) hs r.starts ∙ odd) r.ends
 
 -- ---- a chain that is held
 proper_points : (s : Segment) → IsProper s → HasPoints s

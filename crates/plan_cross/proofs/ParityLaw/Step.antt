@@ -1,19 +1,18 @@
 -- A segment that misses the way from p to q stands over one of the two, and not over the other, exactly where one of its ends, and not the other, is counted: above the way, right of p and not right of q. Each place of its two ends among p and q is a case of the two segments, or empty.
-use Rattle.std.proofs.Common.{◌≡◌, inl, inr, ℤ, pos, ◌*ℤ◌, neg_ℤ, Bool, refl, sym, ap, ap₂, ◌∙◌, arith}
+use Rattle.std.proofs.Common.{◌≡◌, inl, inr, ℤ, pos, ◌*ℤ◌, neg_ℤ, Bool, int_lt, refl, sym, ap, ap₂, ◌∙◌, arith}
 use Rattle.std.proofs.lemmas.Int.{ints}
-use Rattle.std.specs.Prelude.{int_lt}
+use Rattle.std.proofs.Math.Bool.{or_comm}
 use Rattle.plan_exact.specs.Sign.{Order, is_less, is_equal, is_greater}
-use Rattle.plan_exact.specs.Vectors.{Vector}
 use Rattle.plan_exact.proofs.Laws.{linear}
-use Rattle.plan_exact.proofs.Signs.{order_of, weaken}
+use Rattle.plan_exact.proofs.Signs.{order_of, le_of_lt}
 use Rattle.plan_exact.proofs.Vectors.{det_swapped}
-use Rattle.plan_spec.specs.Vector.{IsPoint, LeX, LtX, turn}
+use Rattle.plan_spec.specs.Vector.{Vector, IsPoint, LeX, LtX, turn}
 use Rattle.plan_spec.specs.Segment.{Segment, segment, HasPoints, Common}
 use Rattle.plan_spec.specs.Parity.{over_from, over, xor, counted}
 use Rattle.plan_plane.proofs.Segment.Reversed.{common_flipped, common_last}
 use Rattle.plan_plane.proofs.Segment.ByX.{leX_trans, ltX_leX, leX_ltX}
-use Rattle.plan_cross.proofs.ParityLaw.Xor.{xor_false, xor_comm, or_comm, cancelled}
-use Rattle.plan_plane.proofs.Crossing.Sides.{Agree, same_side, facing}
+use Rattle.plan_cross.proofs.ParityLaw.Xor.{xor_false, xor_comm, cancelled}
+use Rattle.plan_plane.proofs.Crossing.Sides.{Agree, same_side, overlap_side}
 use Rattle.plan_exact.proofs.Tests.{lt_true, lt_false}
 use Rattle.plan_cross.proofs.ParityLaw.Tests.{over_right_of_a, over_past_both, over_before_both, counted_among, counted_before, counted_beyond}
 
@@ -36,11 +35,11 @@ place_of p q e = by (order_of (p.x *ℤ e.w) (e.x *ℤ p.w)) (order_of (q.x *ℤ
 -- ---- tests of numbers of one sign
 both_positive : {x y : ℤ} → Agree x y → int_lt (pos 0) x ≡ int_lt (pos 0) y
 both_positive (inl h) = lt_true h.0 ∙ sym (lt_true h.1)
-both_positive (inr h) = lt_false (weaken h.0) ∙ sym (lt_false (weaken h.1))
+both_positive (inr h) = lt_false (le_of_lt h.0) ∙ sym (lt_false (le_of_lt h.1))
 
 both_negative : {x y : ℤ} → Agree x y → int_lt x (pos 0) ≡ int_lt y (pos 0)
 both_negative (inr h) = lt_true h.0 ∙ sym (lt_true h.1)
-both_negative (inl h) = lt_false (weaken h.0) ∙ sym (lt_false (weaken h.1))
+both_negative (inl h) = lt_false (le_of_lt h.0) ∙ sym (lt_false (le_of_lt h.1))
 
 negative_is_positive : (a b c : Vector) → int_lt (turn a b c) (pos 0) ≡ int_lt (pos 0) (turn b a c)
 negative_is_positive a b c = shown (turn a b c) (turn b a c) (det_swapped a b c)
@@ -88,7 +87,7 @@ before_among p q a b w ap pb bq =
     let aq = leX_trans a p q w.point_a w.point_p w.point_q ap w.onward in
     let ab = leX_ltX a p b w.point_a w.point_p w.point_b ap pb in
     let pq = ltX_leX p b q w.point_p w.point_b w.point_q pb bq in
-    let agree = facing a b p q w.point_a w.point_b w.point_p ab pq ap (weaken pb) bq (apart_flipped w) in
+    let agree = overlap_side a b p q w.point_a w.point_b w.point_p ab pq ap (le_of_lt pb) bq (apart_flipped w) in
     joined (over_right_of_a a b p ap pb) (over_past_both a b q aq bq) (counted_before p q a ap) (counted_among p q b pb bq)
     (xor_false _ ∙ negative_is_positive a b p ∙ both_positive agree)
 
@@ -96,14 +95,14 @@ before_beyond : (p q a b : Vector) → Way p q a b → LeX a p → LtX p b → L
 before_beyond p q a b w ap pb qb =
     let aq = leX_trans a p q w.point_a w.point_p w.point_q ap w.onward in
     let ab = leX_ltX a p b w.point_a w.point_p w.point_b ap pb in
-    let agree = same_side a b p q w.point_p w.point_q ab ap (weaken pb) aq (weaken qb) w.apart in
+    let agree = same_side a b p q w.point_p w.point_q ab ap (le_of_lt pb) aq (le_of_lt qb) w.apart in
     joined (over_right_of_a a b p ap pb) (over_right_of_a a b q aq qb) (counted_before p q a ap) (counted_beyond p q b pb qb)
     (cancelled (both_negative agree))
 
 among_among : (p q a b : Vector) → Way p q a b → LtX p a → LeX a q → LtX p b → LeX b q → Step p q a b
 among_among p q a b w pa aq pb bq =
     let pq = ltX_leX p a q w.point_p w.point_a w.point_q pa aq in
-    let agree = same_side p q a b w.point_a w.point_b pq (weaken pa) aq (weaken pb) bq (apart_flipped w) in
+    let agree = same_side p q a b w.point_a w.point_b pq (le_of_lt pa) aq (le_of_lt pb) bq (apart_flipped w) in
     joined (over_before_both a b p pa pb) (over_past_both a b q aq bq) (counted_among p q a pa aq) (counted_among p q b pb bq)
     (sym (cancelled (both_positive agree)))
 
@@ -111,25 +110,25 @@ among_beyond : (p q a b : Vector) → Way p q a b → LtX p a → LeX a q → Lt
 among_beyond p q a b w pa aq pb qb =
     let pq = ltX_leX p a q w.point_p w.point_a w.point_q pa aq in
     let ab = leX_ltX a q b w.point_a w.point_q w.point_b aq qb in
-    let agree = facing p q a b w.point_p w.point_q w.point_a pq ab (weaken pa) aq (weaken qb) w.apart in
+    let agree = overlap_side p q a b w.point_p w.point_q w.point_a pq ab (le_of_lt pa) aq (le_of_lt qb) w.apart in
     joined (over_before_both a b p pa pb) (over_right_of_a a b q aq qb) (counted_among p q a pa aq) (counted_beyond p q b pb qb)
     (sym (both_negative agree) ∙ negative_is_positive q p a ∙ sym (xor_false _))
 
-placed : (p q a b : Vector) → Way p q a b → Place p q a → Place p q b → Step p q a b
-placed p q a b w (before ap) (before bp) =
+step_by_places : (p q a b : Vector) → Way p q a b → Place p q a → Place p q b → Step p q a b
+step_by_places p q a b w (before ap) (before bp) =
     let aq = leX_trans a p q w.point_a w.point_p w.point_q ap w.onward in
     let bq = leX_trans b p q w.point_b w.point_p w.point_q bp w.onward in
     joined (over_past_both a b p ap bp) (over_past_both a b q aq bq) (counted_before p q a ap) (counted_before p q b bp) refl
-placed p q a b w (before ap) (among pb bq) = before_among p q a b w ap pb bq
-placed p q a b w (before ap) (beyond pb qb) = before_beyond p q a b w ap pb qb
-placed p q a b w (among pa aq) (before bp) = step_reversed p q a b (before_among p q b a (way_reversed w) bp pa aq)
-placed p q a b w (among pa aq) (among pb bq) = among_among p q a b w pa aq pb bq
-placed p q a b w (among pa aq) (beyond pb qb) = among_beyond p q a b w pa aq pb qb
-placed p q a b w (beyond pa qa) (before bp) = step_reversed p q a b (before_beyond p q b a (way_reversed w) bp pa qa)
-placed p q a b w (beyond pa qa) (among pb bq) = step_reversed p q a b (among_beyond p q b a (way_reversed w) pb bq pa qa)
-placed p q a b w (beyond pa qa) (beyond pb qb) =
+step_by_places p q a b w (before ap) (among pb bq) = before_among p q a b w ap pb bq
+step_by_places p q a b w (before ap) (beyond pb qb) = before_beyond p q a b w ap pb qb
+step_by_places p q a b w (among pa aq) (before bp) = step_reversed p q a b (before_among p q b a (way_reversed w) bp pa aq)
+step_by_places p q a b w (among pa aq) (among pb bq) = among_among p q a b w pa aq pb bq
+step_by_places p q a b w (among pa aq) (beyond pb qb) = among_beyond p q a b w pa aq pb qb
+step_by_places p q a b w (beyond pa qa) (before bp) = step_reversed p q a b (before_beyond p q b a (way_reversed w) bp pa qa)
+step_by_places p q a b w (beyond pa qa) (among pb bq) = step_reversed p q a b (among_beyond p q b a (way_reversed w) pb bq pa qa)
+step_by_places p q a b w (beyond pa qa) (beyond pb qb) =
     joined (over_before_both a b p pa pb) (over_before_both a b q qa qb) (counted_beyond p q a pa qa) (counted_beyond p q b pb qb) refl
 
 pub parity_step : (s : Segment) (p q : Vector) → HasPoints s → IsPoint p → IsPoint q → LeX p q → ¬ (Common (segment p q) s) → xor (over s p) (over s q) ≡ xor (counted p q s.a) (counted p q s.b)
 parity_step s p q h hp hq onward apart =
-    placed p q s.a s.b (record { point_p = hp; point_q = hq; point_a = h.0; point_b = h.1; onward = onward; apart = apart }) (place_of p q s.a) (place_of p q s.b)
+    step_by_places p q s.a s.b (record { point_p = hp; point_q = hq; point_a = h.0; point_b = h.1; onward = onward; apart = apart }) (place_of p q s.a) (place_of p q s.b)

@@ -2,8 +2,7 @@
 use Rattle.std.proofs.Common.{◌≡◌, Bool, true, false, ◌&&◌, not, List, [], ◌∷◌, All, refl, sym, ap, ap₂, ◌∙◌}
 use Rattle.std.proofs.lemmas.Bool.{and_parts, not-true}
 use Rattle.std.proofs.lemmas.List.Elements.{All-head, All-tail}
-use Rattle.plan_exact.specs.Vectors.{Vector}
-use Rattle.plan_spec.specs.Vector.{IsPoint, same}
+use Rattle.plan_spec.specs.Vector.{Vector, IsPoint, same}
 use Rattle.plan_spec.specs.Parity.{xor}
 use Rattle.plan_cross.proofs.ParityLaw.Xor.{xor_middle, and_xor}
 use Rattle.plan_cross.proofs.ParityLaw.Position.{IsByPosition, same_same}

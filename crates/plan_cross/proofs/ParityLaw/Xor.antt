@@ -1,5 +1,5 @@
 -- The laws of exclusive or: of its terms in any order, equal ones cancel.
-use Rattle.std.proofs.Common.{◌≡◌, Bool, true, false, ◌&&◌, ◌||◌, refl, sym, ap, ◌∙◌}
+use Rattle.std.proofs.Common.{◌≡◌, Bool, true, false, ◌&&◌, refl, sym, ap, ◌∙◌}
 use Rattle.plan_spec.specs.Parity.{xor}
 
 pub xor_false : (x : Bool) → xor x false ≡ x
@@ -37,10 +37,3 @@ pub same_from_xor : (x y : Bool) → xor x y ≡ false → x ≡ y
 same_from_xor true true e = refl
 same_from_xor true false e = e
 same_from_xor false y e = sym e
-
--- ---- or
-pub or_comm : (x y : Bool) → (x || y) ≡ (y || x)
-or_comm true true = refl
-or_comm true false = refl
-or_comm false true = refl
-or_comm false false = refl

@@ -5,7 +5,7 @@ use Rattle.std.specs.List.{flat_map}
 use Rattle.plan_exact.specs.Vectors.{sum, dot}
 use Rattle.plan_exact.proofs.Laws.{linear}
 use Rattle.plan_exact.proofs.RingVectors.{vector_path}
-use Rattle.plan_exact.proofs.Signs.{mul_nonneg, mul_pos, nonneg_of_pos, lt_of_mul, le_or_lt}
+use Rattle.plan_exact.proofs.Signs.{mul_nonneg, mul_pos, le_of_lt, lt_of_mul, le_or_lt}
 use Rattle.plan_spec.specs.Vector.{Vector, IsPoint, spot, turn}
 use Rattle.plan_spec.specs.Segment.{Segment, On}
 use Rattle.plan_spec.specs.Polygon.{Inside, edges}
@@ -22,7 +22,7 @@ use Rattle.plan_plane.proofs.Line.FirstHeld.{first_held}
 use Rattle.plan_plane.proofs.Lists.{all_map, any_map, any_with, any_weaker, any_joined, any_left, any_right, any_flat, any_unflat, any_none, any_cases}
 
 pub place_point : (p q : Vector) (z : Weights) → IsWeights z → pos 0 <ℤ z.t → IsPoint p → IsPoint q → IsPoint (weighted p q z)
-place_point p q z hz ht hp hq = omega (arith, linear, mul_nonneg hz.first (nonneg_of_pos hp), mul_pos ht hq)
+place_point p q z hz ht hp hq = omega (arith, linear, mul_nonneg hz.first (le_of_lt hp), mul_pos ht hq)
 
 -- a point between p and q that is uncovered, touches, and is on an edge of a sum or a side of the room
 pub record BoundaryPoint (sums : List (List Vector)) (room : Frame) (p q : Vector) : Type 0 where

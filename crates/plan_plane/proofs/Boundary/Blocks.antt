@@ -7,7 +7,7 @@ use Rattle.plan_exact.specs.Formal as F
 use Rattle.plan_exact.specs.Formal.{A, J, K, L, M}
 use Rattle.plan_exact.proofs.Laws.{linear}
 use Rattle.plan_exact.proofs.Ring.{ring}
-use Rattle.plan_exact.proofs.Signs.{mul_of_zero, sign_of, weaken}
+use Rattle.plan_exact.proofs.Signs.{mul_of_zero, sign_of, le_of_lt}
 use Rattle.plan_spec.specs.Vector.{Vector, spot}
 use Rattle.plan_spec.specs.Segment.{Segment, On}
 use Rattle.plan_spec.specs.Polygon.{Inside, edges}
@@ -161,7 +161,7 @@ blocks_uncovered sums lx ly hx hy z wide tall h = record {
 
     at : (l : Vector) → ¬ (OpenAt (single l) z) → dot l z ≤ℤ pos 0
     at l off = elim (sign_of (dot l z)) [
-      | is_negative n ↦ weaken n
+      | is_negative n ↦ le_of_lt n
       | is_zero e ↦ omega (arith, linear)
       | is_positive p ↦ absurd (off (from_single_open l z p))
     ]

@@ -158,7 +158,7 @@ on_edge {vs} {s} z e inside level = on (gathered m (share t.a m.first t.a_has m.
     share v k has hk level = end_share v k e has hk level (vertex_side v e has)
 
     at : m.scale *ℤ turn s.a s.b z ≡ m.first *ℤ turn s.a s.b t.a +ℤ m.second *ℤ turn s.a s.b t.b +ℤ m.third *ℤ turn s.a s.b t.c
-    at = T.value m (cross s.a s.b)
+    at = T.dot_among m (cross s.a s.b)
 
     first : pos 0 ≤ℤ (m.first *ℤ turn s.a s.b t.a)
     first = mul_nonneg m.first_nonneg (vertex_held t.a e t.a_has)

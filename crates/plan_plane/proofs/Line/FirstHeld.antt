@@ -6,7 +6,7 @@ use Rattle.plan_exact.specs.Sign.{Sign, is_negative, is_zero, is_positive}
 use Rattle.plan_exact.proofs.Certificates.{lt_from, le_from, eq_from, absurd_by}
 use Rattle.plan_exact.proofs.Laws.{linear, mul_comm, one_mul, zero_mul}
 use Rattle.plan_exact.proofs.Ring.{ring}
-use Rattle.plan_exact.proofs.Signs.{sign_of, nonneg_or_neg, signs, zeros, mul_nonneg, mul_pos, mul_pos_neg, nonneg_of_pos, nonneg_of_mul, zero_of_mul_left, le_or_lt}
+use Rattle.plan_exact.proofs.Signs.{sign_of, le_or_lt, signs, zeros, mul_nonneg, mul_pos, mul_pos_neg, le_of_lt, nonneg_of_mul, zero_of_mul_left}
 use Rattle.plan_plane.proofs.Lists.{any_here, any_there}
 use Rattle.plan_plane.proofs.Line.Values.{Pair, value, Held, Open, Earlier, Starts, First, never, at, NoneHeld, FirstHeld}
 use Rattle.plan_spec.specs.Weights.{Weights, IsWeights}
@@ -97,7 +97,7 @@ earlier_trans u y z hu hy hz e f =
 -- ---- where one block first holds
 held_or_not : (K : List Pair) (z : Weights) → Held K z ⊎ (¬ (Held K z))
 held_or_not [] z = inl (All-nil (λ n. pos 0 ≤ℤ value n z))
-held_or_not (n ∷ K) z = by (nonneg_or_neg (value n z)) (held_or_not K z)
+held_or_not (n ∷ K) z = by (le_or_lt (pos 0) (value n z)) (held_or_not K z)
   where
     by : (pos 0 ≤ℤ value n z) ⊎ (value n z <ℤ pos 0) → Held K z ⊎ (¬ (Held K z)) → Held (n ∷ K) z ⊎ (¬ (Held (n ∷ K) z))
     by (inl h) (inl k) = inl (All-cons (λ n. pos 0 ≤ℤ value n z) n K h k)
@@ -122,7 +122,7 @@ negative_on n z u hz hu f v b = by (sign_of u.s)
     least = f.least
 
     negative : pos 0 <ℤ u.s → value n u <ℤ pos 0
-    negative h = elim (nonneg_or_neg (value n u)) [
+    negative h = elim (le_or_lt (pos 0) (value n u)) [
       | inr k ↦ k
       | inl k ↦ absurd (absurd_by {xs = variables u u z n n} {c = Z.s ⊗ worth N U ⊕ U.s ⊗ neg (worth N Z) ⊕ neg N.b ⊗ later Z U} (record { positive = search signs }) tt)
     ]
@@ -153,7 +153,7 @@ turned n K z hz held before v hb = by (held_or_not K w)
     w = record { s = n.b; t = neg_ℤ n.a }
 
     falls : n.a <ℤ pos 0
-    falls = elim (nonneg_or_neg n.a) [
+    falls = elim (le_or_lt (pos 0) n.a) [
       | inr k ↦ k
       | inl k ↦ absurd (omega (arith, linear, mul_nonneg hz.first k, mul_nonneg hz.second hb))
     ]
@@ -185,7 +185,7 @@ turned n K z hz held before v hb = by (held_or_not K w)
 
 first_more : (n : Pair) (K : List Pair) → First K → First (n ∷ K)
 first_more n K (never h) = never (λ u hu all. h u hu (All-tail (λ n. pos 0 ≤ℤ value n u) n K all))
-first_more n K (at z hz held starts before) = by (nonneg_or_neg (value n z)) (nonneg_or_neg n.b)
+first_more n K (at z hz held starts before) = by (le_or_lt (pos 0) (value n z)) (le_or_lt (pos 0) n.b)
   where
     by : (pos 0 ≤ℤ value n z) ⊎ (value n z <ℤ pos 0) → (pos 0 ≤ℤ n.b) ⊎ (n.b <ℤ pos 0) → First (n ∷ K)
     by (inl v) b = at z hz (All-cons (λ n. pos 0 ≤ℤ value n z) n K v held) (starts_more n K z starts) (λ u hu e all. before u hu e (All-tail (λ n. pos 0 ≤ℤ value n u) n K all))
@@ -234,7 +234,7 @@ first_of (K ∷ Ks) = first_of_more K Ks (first K) (first_of Ks)
 
 -- ---- at the first place no block is open
 open_held : (K : List Pair) (z : Weights) → Open K z → Held K z
-open_held K z h = All-weaker (λ n. pos 0 <ℤ value n z) (λ n. pos 0 ≤ℤ value n z) (λ n p. nonneg_of_pos p) K h
+open_held K z h = All-weaker (λ n. pos 0 <ℤ value n z) (λ n. pos 0 ≤ℤ value n z) (λ n p. le_of_lt p) K h
 
 -- two weights of one place have their values of one sign
 level : (y z : Weights) → IsWeights y → IsWeights z → NotLater y z → NotLater z y → (n : Pair) → value n y ≡ pos 0 → value n z ≡ pos 0

@@ -1,7 +1,8 @@
 -- Places on a line by weights at its two ends, and the values of covectors there. A covector is known along a line by its values at the two ends; a block is a list of covectors, and holds where none of them is negative.
 use Rattle.std.proofs.Common.{◌≡◌, ◌⊎◌, ℤ, pos, ◌+ℤ◌, ◌*ℤ◌, ◌<ℤ◌, ◌≤ℤ◌, List, map, All, Any, get_or, arith}
 use Rattle.std.proofs.lemmas.List.Elements.{All-map}
-use Rattle.plan_exact.specs.Vectors.{Vector, dot}
+use Rattle.plan_exact.specs.Vectors.{dot}
+use Rattle.plan_spec.specs.Vector.{Vector}
 use Rattle.plan_exact.proofs.Laws.{linear, one_mul, zero_mul}
 use Rattle.plan_exact.proofs.Vectors.{dot_combination_right}
 use Rattle.plan_spec.specs.Weights.{Weights, IsWeights, weighted}

@@ -3,10 +3,10 @@ use Rattle.std.proofs.Common.{inl, inr, suc, pos, ◌≤◌, ◌≤ℤ◌, ◌<�
 use Rattle.std.proofs.lemmas.List.Elements.{All-contains, All-contains_itself}
 use Rattle.plan_exact.specs.Vectors.{dot}
 use Rattle.plan_exact.proofs.Laws.{linear}
-use Rattle.plan_exact.proofs.Signs.{nonneg_or_neg}
+use Rattle.plan_exact.proofs.Signs.{le_or_lt}
 use Rattle.plan_exact.proofs.Vectors.{det_turned, det_swapped}
 use Rattle.plan_spec.specs.Vector.{Vector, IsPoint, Same, turn}
-use Rattle.plan_spec.specs.Segment.{Segment}
+use Rattle.plan_spec.specs.Segment.{segment}
 use Rattle.plan_spec.specs.Polygon.{OnOrLeft, Inside, EndOrLeft, IsConvex, edges_to}
 use Rattle.plan_plane.proofs.Polygon.Triangle as T
 
@@ -22,25 +22,23 @@ pub record Triangle (P : Vector → Type 0) (z : Vector) : Type 0 where
   pub inside : Inside (a ∷ b ∷ c ∷ []) z
 
 -- the triangle of `first` and the edge from a to b, where z is left of the one spoke and right of the other
-found : (P : Vector → Type 0) (z first a b : Vector) → P first → P a → P b → ¬ (Same first a) → ¬ (Same first b) → EndOrLeft (record { a = a; b = b }) first
+spoke_triangle : (P : Vector → Type 0) (z first a b : Vector) → P first → P a → P b → ¬ (Same first a) → ¬ (Same first b) → EndOrLeft (segment a b) first
     → pos 0 ≤ℤ turn first a z → pos 0 ≤ℤ turn a b z → pos 0 ≤ℤ turn b first z → Triangle P z
-found P z first a b hf ha hb na nb side fa ab bf = record { a = first; b = a; c = b; a_has = hf; b_has = ha; c_has = hb; turns_left = left side; inside = T.held first a b z fa ab bf }
+spoke_triangle P z first a b hf ha hb na nb side fa ab bf = record { a = first; b = a; c = b; a_has = hf; b_has = ha; c_has = hb; turns_left = left side; inside = T.held first a b z fa ab bf }
   where
-    left : EndOrLeft (record { a = a; b = b }) first → pos 0 <ℤ turn first a b
+    left : EndOrLeft (segment a b) first → pos 0 <ℤ turn first a b
     left (inl same) = absurd (na same)
     left (inr (inl same)) = absurd (nb same)
     left (inr (inr h)) = omega (arith, linear, det_turned first a b)
 
-walk : (P : Vector → Type 0) (z first : Vector) → P first → (a b : Vector) (vs : List Vector) → All P (a ∷ (b ∷ vs)) → All (λ v. ¬ (Same first v)) (a ∷ (b ∷ vs))
+fan_from : (P : Vector → Type 0) (z first : Vector) → P first → (a b : Vector) (vs : List Vector) → All P (a ∷ (b ∷ vs)) → All (λ v. ¬ (Same first v)) (a ∷ (b ∷ vs))
     → All (λ s. EndOrLeft s first) (edges_to first (a ∷ (b ∷ vs))) → All (OnOrLeft z) (edges_to first (a ∷ (b ∷ vs))) → pos 0 ≤ℤ turn first a z → Triangle P z
-walk P z first hf a b [] has apart left inside fa =
-    let e : Segment = record { a = a; b = b } in
-    found P z first a b hf (has 0 a (omega arith)) (has 1 a (omega arith)) (apart 0 a (omega arith)) (apart 1 a (omega arith)) (left 0 e (omega arith)) fa (inside 0 e (omega arith)) (inside 1 e (omega arith))
-walk P z first hf a b (c ∷ vs) has apart left inside fa =
-    let e : Segment = record { a = a; b = b } in
-    elim (nonneg_or_neg (turn first b z)) [
-      | inl fb ↦ walk P z first hf b c vs (λ k d within. has (suc k) d (omega arith)) (λ k d within. apart (suc k) d (omega arith)) (λ k d within. left (suc k) d (omega arith)) (λ k d within. inside (suc k) d (omega arith)) fb
-      | inr n ↦ found P z first a b hf (has 0 a (omega arith)) (has 1 a (omega arith)) (apart 0 a (omega arith)) (apart 1 a (omega arith)) (left 0 e (omega arith)) fa (inside 0 e (omega arith)) (omega (arith, linear, det_swapped b first z))
+fan_from P z first hf a b [] has apart left inside fa =
+    spoke_triangle P z first a b hf (has 0 a (omega arith)) (has 1 a (omega arith)) (apart 0 a (omega arith)) (apart 1 a (omega arith)) (left 0 (segment a b) (omega arith)) fa (inside 0 (segment a b) (omega arith)) (inside 1 (segment a b) (omega arith))
+fan_from P z first hf a b (c ∷ vs) has apart left inside fa =
+    elim (le_or_lt (pos 0) (turn first b z)) [
+      | inl fb ↦ fan_from P z first hf b c vs (λ k d within. has (suc k) d (omega arith)) (λ k d within. apart (suc k) d (omega arith)) (λ k d within. left (suc k) d (omega arith)) (λ k d within. inside (suc k) d (omega arith)) fb
+      | inr n ↦ spoke_triangle P z first a b hf (has 0 a (omega arith)) (has 1 a (omega arith)) (apart 0 a (omega arith)) (apart 1 a (omega arith)) (left 0 (segment a b) (omega arith)) fa (inside 0 (segment a b) (omega arith)) (omega (arith, linear, det_swapped b first z))
     ]
 
 pub fan : (vs : List Vector) (z : Vector) → IsConvex vs → 3 ≤ length vs → Inside vs z → Triangle (Contains vs) z
@@ -49,12 +47,12 @@ fan (a ∷ []) z convex long inside = absurd (omega arith)
 fan (a ∷ (b ∷ [])) z convex long inside = absurd (omega arith)
 fan (a ∷ (b ∷ (c ∷ vs))) z convex long inside =
     let has = All-contains_itself (a ∷ (b ∷ (c ∷ vs))) in
-    walk (Contains (a ∷ (b ∷ (c ∷ vs)))) z a (has 0 a (omega arith)) b c vs
+    fan_from (Contains (a ∷ (b ∷ (c ∷ vs)))) z a (has 0 a (omega arith)) b c vs
     (λ k d within. has (suc k) d (omega arith))
     (λ k d within. convex.distinct 0 (suc k) d (omega arith) (omega arith))
     (λ k d within. convex.left (suc k) d (omega arith) 0 a (omega arith))
     (λ k d within. inside (suc k) d (omega arith))
-    (inside 0 (record { a = a; b = b }) (omega arith))
+    (inside 0 (segment a b) (omega arith))
 
 -- ---- what a line, or any covector, says of the point
 pub nonneg_at : (vs : List Vector) (z : Vector) → IsConvex vs → 3 ≤ length vs → Inside vs z → (l : Vector) → All (λ v. pos 0 ≤ℤ dot l v) vs → pos 0 ≤ℤ dot l z

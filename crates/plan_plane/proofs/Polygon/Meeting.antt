@@ -9,11 +9,11 @@ use Rattle.plan_exact.specs.Formal.{A, B, C, D}
 use Rattle.plan_exact.proofs.Laws.{linear}
 use Rattle.plan_exact.proofs.Ring.{ring}
 use Rattle.plan_exact.proofs.RingVectors.{ring_vectors}
-use Rattle.plan_exact.proofs.Signs.{mul_nonneg, mul_pos, nonneg_or_neg, order_of, add_nonneg_pos, neg_pos, nonneg_of_pos, le_or_lt}
+use Rattle.plan_exact.proofs.Signs.{mul_nonneg, mul_pos, le_or_lt, order_of, add_nonneg_pos, neg_pos, le_of_lt}
 use Rattle.plan_exact.proofs.Vectors.{dot_opposite}
 use Rattle.plan_spec.specs.Vector.{Vector, IsPoint, turn}
-use Rattle.plan_spec.specs.Segment.{Segment, On}
-use Rattle.plan_spec.specs.Polygon.{OnOrLeft, Inside, IsConvex, edges}
+use Rattle.plan_spec.specs.Segment.{segment, AnyOn}
+use Rattle.plan_spec.specs.Polygon.{OnOrLeft, AreRight, Inside, IsConvex, edges}
 use Rattle.plan_plane.proofs.Segment.Between.{Between, nonneg_at, neg_at, between_first, between_second, between, on}
 use Rattle.plan_plane.proofs.Segment.Middle.{Middle, first, second, third, middle}
 use Rattle.plan_plane.proofs.Polygon.Holding.{IsLeftOfEdges, vertices_inside, inside_between}
@@ -21,15 +21,11 @@ use Rattle.plan_plane.proofs.Polygon.Fan as N
 
 -- a rational point of the segment from p to q that the polygon holds
 abbrev pub MeetsSegment : List Vector → Vector → Vector → Type 0
-MeetsSegment vs p q = (z : Vector) × IsPoint z × On (record { a = p; b = q }) z × Inside vs z
-
--- both ends are strictly right of the edge
-abbrev pub BothRight : Vector → Vector → Segment → Type 0
-BothRight p q s = (turn s.a s.b p <ℤ pos 0) × (turn s.a s.b q <ℤ pos 0)
+MeetsSegment vs p q = AnyOn (Inside vs) (segment p q)
 
 -- a point of the line that the polygon holds, from two held points that are not strictly on one side of it
-crossing : (vs : List Vector) (p q u v : Vector) → IsPoint u → IsPoint v → Inside vs u → Inside vs v → turn p q u ≤ℤ pos 0 → pos 0 ≤ℤ turn p q v → (y : Vector) × IsPoint y × (turn p q y ≡ pos 0) × Inside vs y
-crossing vs p q u v hu hv iu iv right left = by (order_of (turn p q u) (pos 0))
+held_on_line : (vs : List Vector) (p q u v : Vector) → IsPoint u → IsPoint v → Inside vs u → Inside vs v → turn p q u ≤ℤ pos 0 → pos 0 ≤ℤ turn p q v → (y : Vector) × IsPoint y × (turn p q y ≡ pos 0) × Inside vs y
+held_on_line vs p q u v hu hv iu iv right left = by (order_of (turn p q u) (pos 0))
   where
     y : Vector
     y = sum (scaled (turn p q v) u) (scaled (neg_ℤ (turn p q u)) v)
@@ -53,12 +49,12 @@ crossing vs p q u v hu hv iu iv right left = by (order_of (turn p q u) (pos 0))
           second_nonneg = omega (arith, linear);
           is_sum = ring_vectors xs (F.scaled (con (pos 1)) formal) formal tt;
         } in
-        (y, add_nonneg_pos (mul_nonneg left (nonneg_of_pos hu)) (mul_pos (neg_pos h) hv), ring xs (F.det A B formal) F.zero tt, inside_between vs iu iv b)
+        (y, add_nonneg_pos (mul_nonneg left (le_of_lt hu)) (mul_pos (neg_pos h) hv), ring xs (F.det A B formal) F.zero tt, inside_between vs iu iv b)
 
 -- ---- the segment meets the polygon
 -- q between p and a held point, on an edge's line or left of it as soon as p and q are not both right
 reached : {p q y : Vector} (l : Vector) → Between p y q → ¬ ((dot l p <ℤ pos 0) × (dot l q <ℤ pos 0)) → pos 0 ≤ℤ dot l y → pos 0 ≤ℤ dot l q
-reached {p} {q} {y} l b apart hy = by (nonneg_or_neg (dot l p)) (nonneg_or_neg (dot l q))
+reached {p} {q} {y} l b apart hy = by (le_or_lt (pos 0) (dot l p)) (le_or_lt (pos 0) (dot l q))
   where
     by : (pos 0 ≤ℤ dot l p) ⊎ (dot l p <ℤ pos 0) → (pos 0 ≤ℤ dot l q) ⊎ (dot l q <ℤ pos 0) → pos 0 ≤ℤ dot l q
     by t (inl hq) = hq
@@ -66,8 +62,8 @@ reached {p} {q} {y} l b apart hy = by (nonneg_or_neg (dot l p)) (nonneg_or_neg (
     by (inr np) (inr nq) = absurd (apart (np, nq))
 
 pub meeting : (vs : List Vector) (p q : Vector) → IsLeftOfEdges vs → All IsPoint vs → IsPoint p → IsPoint q
-    → All (λ s. ¬ (BothRight p q s)) (edges vs) → Any (λ v. turn p q v ≤ℤ pos 0) vs → Any (λ v. pos 0 ≤ℤ turn p q v) vs → MeetsSegment vs p q
-meeting vs p q left points hp hq apart (i, u, iu, eu, ru) (j, v, iv, ev, lv) = at (crossing vs p q u v (pt u ku) (pt v kv) (held u ku) (held v kv) ru lv)
+    → All (λ s. ¬ (AreRight p q s)) (edges vs) → Any (λ v. turn p q v ≤ℤ pos 0) vs → Any (λ v. pos 0 ≤ℤ turn p q v) vs → MeetsSegment vs p q
+meeting vs p q left points hp hq apart (i, u, iu, eu, ru) (j, v, iv, ev, lv) = at (held_on_line vs p q u v (pt u ku) (pt v kv) (held u ku) (held v kv) ru lv)
   where
     ku : Contains vs u
     ku = (i, iu, eu)
@@ -90,7 +86,7 @@ meeting vs p q left points hp hq apart (i, u, iu, eu, ru) (j, v, iv, ev, lv) = a
         by (first b) = (p, hp, on (between_first p q hp), λ k d within. let s = get_or (edges vs) k d in reached (cross s.a s.b) b (λ h. apart k d within (h.1, h.0)) (iy k d within))
 
 -- ---- and it does not
-pub no_meeting_right_of_edge : (vs : List Vector) (p q : Vector) → Any (BothRight p q) (edges vs) → IsPoint p → IsPoint q → ¬ (MeetsSegment vs p q)
+pub no_meeting_right_of_edge : (vs : List Vector) (p q : Vector) → Any (AreRight p q) (edges vs) → IsPoint p → IsPoint q → ¬ (MeetsSegment vs p q)
 no_meeting_right_of_edge vs p q (k, s, within, e, (hp', hq')) hp hq (z, hz, oz, iz) =
     let at : OnOrLeft z s = All-contains (OnOrLeft z) (edges vs) s iz (k, within, e) in
     omega (arith, linear, neg_at hz (between p q z hp hq hz oz) (cross s.a s.b) hp' hq')
@@ -113,7 +109,7 @@ some_without P Q decide (v ∷ vs) none =
     ]
 
 pub meeting_unless : (vs : List Vector) (p q : Vector) → IsLeftOfEdges vs → All IsPoint vs → IsPoint p → IsPoint q
-    → ¬ (Any (BothRight p q) (edges vs)) → ¬ (All (λ v. pos 0 <ℤ turn p q v) vs) → ¬ (All (λ v. turn p q v <ℤ pos 0) vs) → MeetsSegment vs p q
+    → ¬ (Any (AreRight p q) (edges vs)) → ¬ (All (λ v. pos 0 <ℤ turn p q v) vs) → ¬ (All (λ v. turn p q v <ℤ pos 0) vs) → MeetsSegment vs p q
 meeting_unless vs p q left points hp hq beyond all_left all_right =
     meeting vs p q left points hp hq
     (λ k d within h. let at = Contains-get_or (edges vs) k d within in beyond (at.0, get_or (edges vs) k d, at.1, at.2, h))
@@ -125,7 +121,7 @@ meeting_unless vs p q left points hp hq beyond all_left all_right =
 
 -- three tests, however they are found, decide it together
 pub meets_segment_decides : (vs : List Vector) (p q : Vector) → IsConvex vs → 3 ≤ length vs → All IsPoint vs → IsPoint p → IsPoint q
-    → (beyond left right : Bool) → Decides beyond (Any (BothRight p q) (edges vs)) → Decides left (All (λ v. pos 0 <ℤ turn p q v) vs) → Decides right (All (λ v. turn p q v <ℤ pos 0) vs)
+    → (beyond left right : Bool) → Decides beyond (Any (AreRight p q) (edges vs)) → Decides left (All (λ v. pos 0 <ℤ turn p q v) vs) → Decides right (All (λ v. turn p q v <ℤ pos 0) vs)
     → Decides (not beyond && (not left && not right)) (MeetsSegment vs p q)
 meets_segment_decides vs p q convex long points hp hq true left right b l r = (λ e. absurd (cc), λ m. absurd (no_meeting_right_of_edge vs p q (b.0 refl) hp hq m))
 meets_segment_decides vs p q convex long points hp hq false true right b l r = (λ e. absurd (cc), λ m. absurd (no_meeting_left_of_line vs p q convex long (l.0 refl) m))

@@ -1,10 +1,9 @@
 -- The order of points by x, and by y, is an order.
 use Rattle.std.proofs.Common.{◌⊎◌, inl, inr, ◌*ℤ◌, refl, sym, arith}
 use Rattle.plan_exact.specs.Sign.{is_less, is_equal, is_greater}
-use Rattle.plan_exact.specs.Vectors.{Vector}
 use Rattle.plan_exact.proofs.Laws.{linear}
-use Rattle.plan_exact.proofs.Signs.{order_of, weaken}
-use Rattle.plan_spec.specs.Vector.{IsPoint, LeX, LtX, LtY, SameX, SameY}
+use Rattle.plan_exact.proofs.Signs.{order_of, le_of_lt}
+use Rattle.plan_spec.specs.Vector.{Vector, IsPoint, LeX, LtX, LtY, SameX, SameY}
 use Rattle.plan_plane.proofs.Segment.Between.{flip}
 use Rattle.plan_plane.proofs.Segment.ByX.{leX_trans, ltX_leX, leX_ltX}
 use Rattle.plan_plane.proofs.Rising.Lists.{IsOrder}
@@ -23,7 +22,7 @@ order_x = record {
   refl = λ a ha. refl;
   sym = λ a b ha hb e. sym e;
   trans = λ a b c ha hb hc e f. both a c (leX_trans a b c ha hb hc (same_le a b e) (same_le b c f)) (leX_trans c b a hc hb ha (same_ge b c f) (same_ge a b e));
-  less = λ a b c ha hb hc h k. ltX_leX a b c ha hb hc h (weaken k);
+  less = λ a b c ha hb hc h k. ltX_leX a b c ha hb hc h (le_of_lt k);
   less_equal = λ a b c ha hb hc h e. ltX_leX a b c ha hb hc h (same_le b c e);
   equal_less = λ a b c ha hb hc e h. leX_ltX a b c ha hb hc (same_le a b e) h;
   apart = λ a b ha hb h e. omega (arith, linear);

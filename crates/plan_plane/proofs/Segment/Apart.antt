@@ -2,12 +2,12 @@
 use Rattle.std.proofs.Common.{ℤ, pos, ◌≤ℤ◌, ◌<ℤ◌, ◌≡◌, arith, ◌⊎◌, inl, inr, neg_ℤ, ◌+ℤ◌, List, [], ◌∷◌, All}
 use Rattle.std.proofs.lemmas.List.Elements.{All-head, All-tail, All-nil, All-cons}
 use Rattle.plan_exact.specs.Sign.{Sign, is_negative, is_zero, is_positive}
-use Rattle.plan_exact.specs.Vectors.{Vector, dot, opposite, cross}
+use Rattle.plan_exact.specs.Vectors.{dot, opposite, cross}
 use Rattle.plan_exact.proofs.Laws.{linear}
-use Rattle.plan_exact.proofs.Signs.{nonneg_or_neg, sign_of}
+use Rattle.plan_exact.proofs.Signs.{le_or_lt, sign_of}
 use Rattle.plan_exact.proofs.Vectors.{dot_opposite, cross_on_left, cross_on_right}
 use Rattle.plan_spec.specs.Segment.{Segment, On, HasPoints, segment, Common}
-use Rattle.plan_spec.specs.Vector.{IsPoint, Same, turn}
+use Rattle.plan_spec.specs.Vector.{Vector, IsPoint, Same, turn}
 use Rattle.plan_plane.proofs.Segment.Facing.{facing, facing_from, facing_to}
 use Rattle.plan_plane.proofs.Near.{step, near_pos}
 use Rattle.plan_plane.proofs.Segment.Between.{Between, pos_at, between_same, on, swapped, between, nonneg_at}
@@ -26,7 +26,7 @@ nonpos e = omega (arith, linear)
 
 -- a is between z and b, and is not z
 beyond : (a b z : Vector) → IsPoint a → IsPoint z → ¬ (Same z a) → Between z b a → (pos 0 <ℤ dot (facing a z) z) × (dot (facing a z) a ≤ℤ pos 0) × (dot (facing a z) b ≤ℤ pos 0)
-beyond a b z ha hz apart m = (here, nonpos (facing_from a z), by (nonneg_or_neg (neg_ℤ (dot (facing a z) b))))
+beyond a b z ha hz apart m = (here, nonpos (facing_from a z), by (le_or_lt (pos 0) (neg_ℤ (dot (facing a z) b))))
   where
     here : pos 0 <ℤ dot (facing a z) z
     here = facing_to a z (λ e. apart (Same-swapped a z e))

@@ -4,13 +4,13 @@ use Rattle.plan_exact.specs.Expr.{◌⊕◌, ◌⊖◌, ◌⊗◌, neg}
 use Rattle.plan_exact.specs.Formal.{A, B, C, J, K, L}
 use Rattle.plan_exact.specs.Formal as F
 use Rattle.plan_exact.specs.Sign.{Order, is_less, is_equal, is_greater}
-use Rattle.plan_exact.specs.Vectors.{Vector, sum, scaled, env, dot}
+use Rattle.plan_exact.specs.Vectors.{sum, scaled, env, dot}
 use Rattle.plan_exact.proofs.Certificates.{eq_from}
 use Rattle.plan_exact.proofs.Laws.{linear}
 use Rattle.plan_exact.proofs.RingVectors.{ring_vectors}
 use Rattle.plan_exact.proofs.Signs.{zeros, order_of, mul_pos, mul_nonneg, pos_of_mul}
-use Rattle.plan_spec.specs.Vector.{Same}
-use Rattle.plan_plane.proofs.Segment.Between.{Between, value}
+use Rattle.plan_spec.specs.Vector.{Vector, Same}
+use Rattle.plan_plane.proofs.Segment.Between.{Between, dot_between}
 
 -- ---- weights of a point that is not an end
 no_weight : (p q y : Vector) (k s t : ℤ) → pos 0 <ℤ k → t ≡ pos 0 → scaled k y ≡ sum (scaled s p) (scaled t q) → Same y p
@@ -41,7 +41,7 @@ first_weight {p} {q} {y} b apart =
 
 -- a covector that is not negative at the ends, and positive at one whose weight is
 pub pos_by_second : {p q y : Vector} (b : Between p q y) (l : Vector) → pos 0 <ℤ b.second → pos 0 ≤ℤ dot l p → pos 0 <ℤ dot l q → pos 0 <ℤ dot l y
-pos_by_second b l hw hp hq = pos_of_mul b.scale_positive (omega (arith, linear, value b l, mul_nonneg b.first_nonneg hp, mul_pos hw hq))
+pos_by_second b l hw hp hq = pos_of_mul b.scale_positive (omega (arith, linear, dot_between b l, mul_nonneg b.first_nonneg hp, mul_pos hw hq))
 
 pub pos_by_first : {p q y : Vector} (b : Between p q y) (l : Vector) → pos 0 <ℤ b.first → pos 0 <ℤ dot l p → pos 0 ≤ℤ dot l q → pos 0 <ℤ dot l y
-pos_by_first b l hw hp hq = pos_of_mul b.scale_positive (omega (arith, linear, value b l, mul_pos hw hp, mul_nonneg b.second_nonneg hq))
+pos_by_first b l hw hp hq = pos_of_mul b.scale_positive (omega (arith, linear, dot_between b l, mul_pos hw hp, mul_nonneg b.second_nonneg hq))

@@ -10,10 +10,10 @@ use Rattle.plan_exact.proofs.Fractions.{le_trans}
 use Rattle.plan_exact.proofs.Laws.{mul_comm, zero_mul, linear}
 use Rattle.plan_exact.proofs.Ring.{ring}
 use Rattle.plan_exact.proofs.RingVectors.{ring_vectors, vector_path}
-use Rattle.plan_exact.proofs.Signs.{mul_nonneg, mul_pos, nonneg_of_mul, pos_of_mul, order_of, nonneg_of_pos, signs}
+use Rattle.plan_exact.proofs.Signs.{mul_nonneg, mul_pos, nonneg_of_mul, pos_of_mul, order_of, le_of_lt, signs}
 use Rattle.plan_exact.proofs.Vectors.{dot_combination_right, dot_opposite, det_swapped, cross_on_left, cross_on_right}
 use Rattle.plan_spec.specs.Vector.{Vector, IsPoint, LeX, LtX, SameX, Same, turn}
-use Rattle.plan_spec.specs.Segment.{On}
+use Rattle.plan_spec.specs.Segment.{On, segment}
 
 -- scale z is first p + second q
 pub record Between (p q z : Vector) : Type 0 where
@@ -26,12 +26,12 @@ pub record Between (p q z : Vector) : Type 0 where
   pub is_sum : scaled scale z ≡ sum (scaled first p) (scaled second q)
 
 -- ---- what a line, or any covector, says of the point
-pub value : {p q z : Vector} (b : Between p q z) (l : Vector) → b.scale *ℤ dot l z ≡ b.first *ℤ dot l p +ℤ b.second *ℤ dot l q
-value {p} {q} {z} b l = ring (env (b.scale ∷ []) (z ∷ l ∷ [])) (J ⊗ F.dot B A) (F.dot B (F.scaled J A)) tt ∙ ap (dot l) b.is_sum ∙ dot_combination_right b.first b.second p q l
+pub dot_between : {p q z : Vector} (b : Between p q z) (l : Vector) → b.scale *ℤ dot l z ≡ b.first *ℤ dot l p +ℤ b.second *ℤ dot l q
+dot_between {p} {q} {z} b l = ring (env (b.scale ∷ []) (z ∷ l ∷ [])) (J ⊗ F.dot B A) (F.dot B (F.scaled J A)) tt ∙ ap (dot l) b.is_sum ∙ dot_combination_right b.first b.second p q l
 
 pub nonneg_at : {p q z : Vector} → Between p q z → (l : Vector) → pos 0 ≤ℤ dot l p → pos 0 ≤ℤ dot l q → pos 0 ≤ℤ dot l z
 nonneg_at {p} {q} {z} b l hp hq =
-    let h : pos 0 ≤ℤ (b.scale *ℤ dot l z) = omega (arith, linear, value b l, mul_nonneg b.first_nonneg hp, mul_nonneg b.second_nonneg hq) in
+    let h : pos 0 ≤ℤ (b.scale *ℤ dot l z) = omega (arith, linear, dot_between b l, mul_nonneg b.first_nonneg hp, mul_nonneg b.second_nonneg hq) in
     nonneg_of_mul b.scale_positive h
 
 -- where the point's weight is positive, one of the two is
@@ -49,8 +49,8 @@ pub pos_at : {p q z : Vector} → IsPoint z → Between p q z → (l : Vector) �
 pos_at {p} {q} {z} hz b l hp hq = pos_of_mul b.scale_positive (by (some_weight b.scale b.first b.second p.w q.w z.w b.scale_positive hz b.first_nonneg b.second_nonneg (ap (λ v. v.w) b.is_sum)))
   where
     by : (pos 0 <ℤ b.first) ⊎ (pos 0 <ℤ b.second) → pos 0 <ℤ (b.scale *ℤ dot l z)
-    by (inl h) = omega (arith, linear, value b l, mul_pos h hp, mul_nonneg b.second_nonneg (nonneg_of_pos hq))
-    by (inr h) = omega (arith, linear, value b l, mul_nonneg b.first_nonneg (nonneg_of_pos hp), mul_pos h hq)
+    by (inl h) = omega (arith, linear, dot_between b l, mul_pos h hp, mul_nonneg b.second_nonneg (le_of_lt hq))
+    by (inr h) = omega (arith, linear, dot_between b l, mul_nonneg b.first_nonneg (le_of_lt hp), mul_pos h hq)
 
 pub neg_at : {p q z : Vector} → IsPoint z → Between p q z → (l : Vector) → dot l p <ℤ pos 0 → dot l q <ℤ pos 0 → dot l z <ℤ pos 0
 neg_at {p} {q} {z} hz b l hp hq =
@@ -97,10 +97,10 @@ turn_flipped p q z = ring (env [] (p ∷ q ∷ z ∷ [])) (F.det (formal A) (for
 
 -- ---- the order by x and by y against a fixed point
 -- positive at what is right of r
-abbrev right_of : Vector → Vector
+abbrev pub right_of : Vector → Vector
 right_of r = record { x = r.w; y = pos 0; w = neg_ℤ r.x }
 
-right_of_is : (r p : Vector) → dot (right_of r) p ≡ p.x *ℤ r.w -ℤ r.x *ℤ p.w
+pub right_of_is : (r p : Vector) → dot (right_of r) p ≡ p.x *ℤ r.w -ℤ r.x *ℤ p.w
 right_of_is r p = ring (env [] (r ∷ p ∷ [])) (F.dot (record { x = A.w; y = F.zero; w = neg A.x }) B) (B.x ⊗ A.w ⊖ A.x ⊗ B.w) tt
 
 pub LeX_before : {p q z : Vector} → Between p q z → (r : Vector) → LeX p r → LeX q r → LeX z r
@@ -157,7 +157,7 @@ between_same p q z hp hz (sx, sy) = record {
   first = z.w;
   second = pos 0;
   scale_positive = hp;
-  first_nonneg = nonneg_of_pos hz;
+  first_nonneg = le_of_lt hz;
   second_nonneg = omega (arith, linear);
   is_sum = vector_path
       (omega (arith, linear, mul_comm p.w z.x, mul_comm z.w p.x, zero_mul q.x))
@@ -172,26 +172,26 @@ between_first p q hp = between_same p q p hp hp (refl, refl)
 pub between_second : (p q : Vector) → IsPoint q → Between p q q
 between_second p q hq = swapped (between_first q p hq)
 
--- by x, and where that says nothing by `level`
-along : (p q z : Vector) → IsPoint p → IsPoint q → IsPoint z → turn p q z ≡ pos 0 → (SameX p z → SameX q z → Between p q z) → LeX p z → LeX z q → Between p q z
-along p q z hp hq hz e level h k = by (order_of (p.x *ℤ q.w) (q.x *ℤ p.w))
+-- by x, and where that says nothing by `upright`
+between_by_x : (p q z : Vector) → IsPoint p → IsPoint q → IsPoint z → turn p q z ≡ pos 0 → (SameX p z → SameX q z → Between p q z) → LeX p z → LeX z q → Between p q z
+between_by_x p q z hp hq hz e upright h k = by (order_of (p.x *ℤ q.w) (q.x *ℤ p.w))
   where
     by : Order (p.x *ℤ q.w) (q.x *ℤ p.w) → Between p q z
     by (is_less lt) = between_x p q z lt h k e
     by (is_equal eq) =
         let zp = le_trans z.x z.w q.x q.w p.x p.w hz hq hp k (omega (arith, linear)) in
         let qz = le_trans q.x q.w p.x p.w z.x z.w hq hp hz (omega (arith, linear)) h in
-        level (omega (arith, linear)) (omega (arith, linear))
+        upright (omega (arith, linear)) (omega (arith, linear))
     by (is_greater gt) = absurd (omega (arith, linear, le_trans p.x p.w z.x z.w q.x q.w hp hz hq h k))
 
-either : (p q z : Vector) → IsPoint p → IsPoint q → IsPoint z → turn p q z ≡ pos 0 → (SameX p z → SameX q z → Between p q z) → (LeX p z × LeX z q) ⊎ (LeX q z × LeX z p) → Between p q z
-either p q z hp hq hz e level (inl (h, k)) = along p q z hp hq hz e level h k
-either p q z hp hq hz e level (inr (h, k)) = swapped (along q p z hq hp hz (omega (arith, linear, det_swapped p q z)) (λ a b. swapped (level b a)) h k)
+between_either_way : (p q z : Vector) → IsPoint p → IsPoint q → IsPoint z → turn p q z ≡ pos 0 → (SameX p z → SameX q z → Between p q z) → (LeX p z × LeX z q) ⊎ (LeX q z × LeX z p) → Between p q z
+between_either_way p q z hp hq hz e upright (inl (h, k)) = between_by_x p q z hp hq hz e upright h k
+between_either_way p q z hp hq hz e upright (inr (h, k)) = swapped (between_by_x q p z hq hp hz (omega (arith, linear, det_swapped p q z)) (λ a b. swapped (upright b a)) h k)
 
-pub between : (p q z : Vector) → IsPoint p → IsPoint q → IsPoint z → On (record { a = p; b = q }) z → Between p q z
+pub between : (p q z : Vector) → IsPoint p → IsPoint q → IsPoint z → On (segment p q) z → Between p q z
 between p q z hp hq hz on =
-    either p q z hp hq hz on.in_line
-    (λ px qx. flipped (either (flip p) (flip q) (flip z) hp hq hz (omega (arith, linear, turn_flipped p q z, on.in_line)) (λ py qy. flipped (between_same p q z hp hz (px, py))) on.within_y))
+    between_either_way p q z hp hq hz on.in_line
+    (λ px qx. flipped (between_either_way (flip p) (flip q) (flip z) hp hq hz (omega (arith, linear, turn_flipped p q z, on.in_line)) (λ py qy. flipped (between_same p q z hp hz (px, py))) on.within_y))
     on.within_x
 
 -- ---- and the other way
@@ -203,7 +203,7 @@ within_x {p} {q} {z} b = by (order_of (p.x *ℤ q.w) (q.x *ℤ p.w))
     by (is_equal h) = inl (LeX_after b p (omega (arith, linear)) (omega (arith, linear)), LeX_before b q (omega (arith, linear)) (omega (arith, linear)))
     by (is_greater h) = inr (LeX_after b q (omega (arith, linear)) (omega (arith, linear)), LeX_before b p (omega (arith, linear)) (omega (arith, linear)))
 
-pub on : {p q z : Vector} → Between p q z → On (record { a = p; b = q }) z
+pub on : {p q z : Vector} → Between p q z → On (segment p q) z
 on {p} {q} {z} b = record {
   in_line = zero_at b (cross p q) (cross_on_left p q) (cross_on_right p q);
   within_x = within_x b;

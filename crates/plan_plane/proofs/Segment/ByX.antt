@@ -1,9 +1,8 @@
 -- The order of points by x is transitive, as that of fractions is.
 use Rattle.std.proofs.Common.{◌⊎◌, inl, inr, arith}
-use Rattle.plan_exact.specs.Vectors.{Vector}
 use Rattle.plan_exact.proofs.Laws.{linear}
 use Rattle.plan_exact.proofs.Fractions.{le_trans, lt_le_trans, le_lt_trans}
-use Rattle.plan_spec.specs.Vector.{IsPoint, LeX, LtX, SameX}
+use Rattle.plan_spec.specs.Vector.{Vector, IsPoint, LeX, LtX, SameX}
 
 pub leX_trans : (a b c : Vector) → IsPoint a → IsPoint b → IsPoint c → LeX a b → LeX b c → LeX a c
 leX_trans a b c ha hb hc h k = le_trans a.x a.w b.x b.w c.x c.w ha hb hc h k

@@ -1,7 +1,8 @@
 -- A combination of the ends of a segment, with weights that are not negative, is on the segment.
 use Rattle.std.proofs.Common.{ℤ, pos, ◌≤ℤ◌, [], ◌∷◌}
 use Rattle.plan_exact.specs.Expr.{con}
-use Rattle.plan_exact.specs.Vectors.{Vector, sum, scaled, env}
+use Rattle.plan_exact.specs.Vectors.{sum, scaled, env}
+use Rattle.plan_spec.specs.Vector.{Vector}
 use Rattle.plan_exact.specs.Formal as F
 use Rattle.plan_exact.specs.Formal.{A}
 use Rattle.plan_exact.proofs.RingVectors.{ring_vectors}

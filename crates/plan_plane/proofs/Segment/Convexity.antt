@@ -1,12 +1,12 @@
 -- A segment is convex: a combination of two of its points is on it, since it is a combination of the ends.
 use Rattle.std.proofs.Common.{◌≡◌, ℤ, pos, ◌+ℤ◌, ◌*ℤ◌, ◌≤ℤ◌, [], ◌∷◌, ap₂, ◌∙◌}
 use Rattle.plan_exact.specs.Expr.{◌⊕◌, ◌⊗◌}
-use Rattle.plan_exact.specs.Vectors.{Vector, sum, scaled, env}
+use Rattle.plan_exact.specs.Vectors.{sum, scaled, env}
 use Rattle.plan_exact.specs.Formal as F
 use Rattle.plan_exact.specs.Formal.{A, B, J, K, L, M, N}
 use Rattle.plan_exact.proofs.RingVectors.{ring_vectors}
 use Rattle.plan_exact.proofs.Signs.{signs}
-use Rattle.plan_spec.specs.Vector.{IsPoint}
+use Rattle.plan_spec.specs.Vector.{Vector, IsPoint}
 use Rattle.plan_spec.specs.Segment.{On, segment}
 use Rattle.plan_plane.proofs.Segment.Between.{Between, between, on}
 

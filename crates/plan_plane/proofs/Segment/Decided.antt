@@ -1,10 +1,9 @@
 -- Facts that are decided: each holds or does not, and which of the two is computed.
 use Rattle.std.proofs.Common.{◌≡◌, ◌⊎◌, inl, inr, ℤ, pos, ◌*ℤ◌, ◌≤ℤ◌, ◌<ℤ◌, arith}
 use Rattle.plan_exact.specs.Sign.{Order, is_less, is_equal, is_greater}
-use Rattle.plan_exact.specs.Vectors.{Vector}
 use Rattle.plan_exact.proofs.Laws.{linear}
 use Rattle.plan_exact.proofs.Signs.{order_of, le_or_lt}
-use Rattle.plan_spec.specs.Vector.{turn}
+use Rattle.plan_spec.specs.Vector.{Vector, turn}
 use Rattle.plan_spec.specs.Segment.{Segment, On}
 
 abbrev pub Decided : Type 0 → Type 0

@@ -3,13 +3,13 @@ use Rattle.std.proofs.Common.{◌≡◌, ◌⊎◌, pos, ◌≤ℤ◌, neg_ℤ, 
 use Rattle.plan_exact.specs.Expr.{con, neg, ◌⊖◌, ◌⊗◌, ◌⊕◌}
 use Rattle.plan_exact.specs.Formal.{A, B, C, D}
 use Rattle.plan_exact.specs.Formal as F
-use Rattle.plan_exact.specs.Vectors.{Vector, dot, sum, scaled, env}
+use Rattle.plan_exact.specs.Vectors.{dot, sum, scaled, env}
 use Rattle.plan_exact.proofs.Certificates.{le_from}
 use Rattle.plan_exact.proofs.Laws.{linear}
 use Rattle.plan_exact.proofs.Ring.{ring}
 use Rattle.plan_exact.proofs.RingVectors.{ring_vectors}
-use Rattle.plan_exact.proofs.Signs.{signs, mul_nonneg, mul_pos, nonneg_of_pos, nonneg_or_neg}
-use Rattle.plan_spec.specs.Vector.{IsPoint}
+use Rattle.plan_exact.proofs.Signs.{signs, mul_nonneg, mul_pos, le_of_lt, le_or_lt}
+use Rattle.plan_spec.specs.Vector.{Vector, IsPoint}
 use Rattle.plan_plane.proofs.Segment.Between.{Between}
 
 -- ---- from a point outside to one inside: the point of the segment where it comes in
@@ -29,14 +29,14 @@ through l m a z ha hz lz la h =
     let k : pos 0 <ℤ neg_ℤ (dot l a) = omega (arith, linear) in
     record {
       at = entry_at l a z;
-      point = omega (arith, linear, mul_nonneg lz (nonneg_of_pos ha), mul_pos k hz);
+      point = omega (arith, linear, mul_nonneg lz (le_of_lt ha), mul_pos k hz);
       between = record {
         scale = pos 1;
         first = dot l z;
         second = neg_ℤ (dot l a);
         scale_positive = search signs;
         first_nonneg = lz;
-        second_nonneg = nonneg_of_pos k;
+        second_nonneg = le_of_lt k;
         is_sum = ring_vectors (env [] (entry_at l a z ∷ [])) (F.scaled (con (pos 1)) A) A tt;
       };
       side = inl (ring (env [] (l ∷ a ∷ z ∷ [])) (F.dot A (F.sum (F.scaled (F.dot A C) B) (F.scaled (neg (F.dot A B)) C))) F.zero tt, h);
@@ -64,7 +64,7 @@ unfolding entry_at
 at_own l a z = ring (env [] (l ∷ a ∷ z ∷ [])) (F.dot A (F.sum (F.scaled (F.dot A C) B) (F.scaled (neg (F.dot A B)) C))) F.zero tt
 
 by_first : (l m a z : Vector) → IsPoint a → IsPoint z → pos 0 ≤ℤ dot l z → pos 0 ≤ℤ dot m z → dot l a <ℤ pos 0 → Entry l m a z
-by_first l m a z ha hz lz mz la = by (nonneg_or_neg (dot m (entry_at l a z))) (nonneg_or_neg (dot m a))
+by_first l m a z ha hz lz mz la = by (le_or_lt (pos 0) (dot m (entry_at l a z))) (le_or_lt (pos 0) (dot m a))
   where
     by : (pos 0 ≤ℤ dot m (entry_at l a z)) ⊎ (dot m (entry_at l a z) <ℤ pos 0) → (pos 0 ≤ℤ dot m a) ⊎ (dot m a <ℤ pos 0) → Entry l m a z
     by (inl h) s = through l m a z ha hz lz la h

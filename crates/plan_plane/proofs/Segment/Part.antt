@@ -3,10 +3,11 @@ use Rattle.std.proofs.Common.{◌+ℤ◌, ◌*ℤ◌, [], ◌∷◌, ap, ◌∙�
 use Rattle.plan_exact.specs.Expr.{◌⊕◌, ◌⊗◌}
 use Rattle.plan_exact.specs.Formal.{A, B, J, K, L, M}
 use Rattle.plan_exact.specs.Formal as F
-use Rattle.plan_exact.specs.Vectors.{Vector, sum, scaled, env}
+use Rattle.plan_exact.specs.Vectors.{sum, scaled, env}
+use Rattle.plan_spec.specs.Vector.{Vector}
 use Rattle.plan_exact.proofs.Laws.{linear}
 use Rattle.plan_exact.proofs.RingVectors.{ring_vectors}
-use Rattle.plan_exact.proofs.Signs.{mul_nonneg, mul_pos, nonneg_of_pos}
+use Rattle.plan_exact.proofs.Signs.{mul_nonneg, mul_pos, le_of_lt}
 use Rattle.plan_plane.proofs.Segment.Between.{Between}
 
 -- ---- a point of a segment's part is on the segment
@@ -20,7 +21,7 @@ between_part {a} {b} {z} {c} m n =
       first = m.scale *ℤ n.first +ℤ n.second *ℤ m.first;
       second = n.second *ℤ m.second;
       scale_positive = mul_pos m.scale_positive n.scale_positive;
-      first_nonneg = omega (arith, linear, mul_nonneg (nonneg_of_pos m.scale_positive) n.first_nonneg, mul_nonneg n.second_nonneg m.first_nonneg);
+      first_nonneg = omega (arith, linear, mul_nonneg (le_of_lt m.scale_positive) n.first_nonneg, mul_nonneg n.second_nonneg m.first_nonneg);
       second_nonneg = mul_nonneg n.second_nonneg m.second_nonneg;
       is_sum = step1 ∙ ap (scaled m.scale) n.is_sum ∙ step2 ∙ ap (λ k. sum (scaled (m.scale *ℤ n.first) a) (scaled n.second k)) m.is_sum ∙ step3;
     }

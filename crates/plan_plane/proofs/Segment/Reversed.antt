@@ -1,6 +1,6 @@
 -- Whichever end of a segment comes first, and whichever axis, it has the same points.
 use Rattle.std.proofs.Common.{◌⊎◌, inl, inr, neg_ℤ, ap, ◌∙◌, arith}
-use Rattle.plan_exact.specs.Vectors.{Vector}
+use Rattle.plan_spec.specs.Vector.{Vector}
 use Rattle.plan_exact.proofs.Laws.{linear}
 use Rattle.plan_exact.proofs.Vectors.{det_swapped}
 use Rattle.plan_spec.specs.Segment.{Segment, On, segment, Common}

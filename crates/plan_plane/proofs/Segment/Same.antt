@@ -3,13 +3,13 @@ use Rattle.std.proofs.Common.{◌≡◌, ◌⊎◌, inl, inr, ℤ, pos, ◌-ℤ�
 use Rattle.std.proofs.lemmas.Bool.{and_parts, and_from}
 use Rattle.std.proofs.lemmas.Bool.Decides.{same_from_decides, Decides-int_eq}
 use Rattle.plan_exact.specs.Expr.{var, con, ◌⊕◌, ◌⊖◌, ◌⊗◌}
-use Rattle.plan_exact.specs.Vectors.{Vector, env}
+use Rattle.plan_exact.specs.Vectors.{env}
 use Rattle.plan_exact.specs.Formal as F
 use Rattle.plan_exact.specs.Formal.{A, B, C, D}
 use Rattle.plan_exact.proofs.Laws.{linear, mul_comm}
 use Rattle.plan_exact.proofs.Certificates.{eq_from}
 use Rattle.plan_exact.proofs.Signs.{signs, zeros, zero_of_mul, zero_of_mul_left}
-use Rattle.plan_spec.specs.Vector.{IsPoint, LeX, Same, SameX, turn, same}
+use Rattle.plan_spec.specs.Vector.{Vector, IsPoint, LeX, Same, SameX, turn, same}
 use Rattle.plan_spec.specs.Segment.{On, segment}
 use Rattle.plan_plane.proofs.Segment.Between.{flip}
 use Rattle.plan_plane.proofs.Segment.ByX.{leX_trans}

@@ -2,15 +2,15 @@
 use Rattle.std.proofs.Common.{◌≡◌, ⊎_elim, ℤ, pos, ◌+ℤ◌, ◌-ℤ◌, ◌*ℤ◌, ◌<ℤ◌, [], ◌∷◌, sym, ap, ◌∙◌, arith}
 use Rattle.plan_exact.specs.Expr.{var, con, ◌⊕◌, ◌⊖◌, ◌⊗◌, neg}
 use Rattle.plan_exact.specs.Sign.{Sign, is_negative, is_zero, is_positive}
-use Rattle.plan_exact.specs.Vectors.{Vector, sum, scaled, env}
+use Rattle.plan_exact.specs.Vectors.{sum, scaled, env}
 use Rattle.plan_exact.specs.Formal as F
 use Rattle.plan_exact.specs.Formal.{A, B, J, K}
 use Rattle.plan_exact.proofs.Certificates.{eq_from}
 use Rattle.plan_exact.proofs.Laws.{linear}
 use Rattle.plan_exact.proofs.Ring.{ring}
 use Rattle.plan_exact.proofs.RingVectors.{ring_vectors}
-use Rattle.plan_exact.proofs.Signs.{signs, zeros, sign_of, zero_or_zero, mul_nonneg, mul_pos, nonneg_of_pos, zero_of_mul_left}
-use Rattle.plan_spec.specs.Vector.{IsPoint, Same}
+use Rattle.plan_exact.proofs.Signs.{signs, zeros, sign_of, zero_or_zero, mul_nonneg, mul_pos, le_of_lt, zero_of_mul_left}
+use Rattle.plan_spec.specs.Vector.{Vector, IsPoint, Same}
 use Rattle.plan_spec.specs.Segment.{On, segment}
 use Rattle.plan_spec.specs.Weights.{Weights, IsWeights, IsInner, weighted}
 use Rattle.plan_plane.proofs.Segment.Between.{Between, between}
@@ -52,7 +52,7 @@ independent a b i j k l different e = (first_equal a b i j k l different e, firs
 
 pub weights_point : (a b : Vector) (z : Weights) → IsPoint a → IsPoint b → IsWeights z → IsPoint (weighted a b z)
 weights_point a b z ha hb hz = elim (sign_of z.s) [
-  | is_positive h ↦ omega (arith, linear, mul_pos h ha, mul_nonneg hz.second (nonneg_of_pos hb))
+  | is_positive h ↦ omega (arith, linear, mul_pos h ha, mul_nonneg hz.second (le_of_lt hb))
   | is_negative h ↦ absurd (omega (arith, linear, hz.first))
   | is_zero e ↦ let t : pos 0 <ℤ z.t = omega (arith, linear, hz.some) in omega (arith, linear, zero_of_mul_left z.s a.w e, mul_pos t hb)
 ]

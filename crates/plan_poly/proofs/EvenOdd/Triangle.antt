@@ -12,7 +12,7 @@ use Rattle.plan_exact.specs.Vectors.{Vector, env}
 use Rattle.plan_exact.proofs.Certificates.{eq_from}
 use Rattle.plan_exact.proofs.Laws.{linear}
 use Rattle.plan_exact.proofs.Ring.{ring}
-use Rattle.plan_exact.proofs.Signs.{le_or_lt, zeros, zero_of_mul, mul_pos, mul_nonneg_nonpos, nonneg_of_pos, mul_nonpos, mul_neg_pos, sign_of, mul_nonpos_nonneg}
+use Rattle.plan_exact.proofs.Signs.{le_or_lt, zeros, zero_of_mul, mul_pos, mul_nonneg_nonpos, le_of_lt, mul_nonpos, mul_neg_pos, sign_of, mul_nonpos_nonneg}
 use Rattle.plan_exact.proofs.Tests.{lt_true, lt_false}
 use Rattle.plan_exact.proofs.Vectors.{det_swapped, det_turned}
 use Rattle.plan_spec.specs.Parity.{over, parity, xor}
@@ -25,7 +25,7 @@ use Rattle.plan_plane.proofs.Polygon.Holding.{inside_between}
 use Rattle.plan_plane.proofs.Polygon.Sides.{first_inside, second_inside, third_inside, on_first, on_last, on_third}
 use Rattle.plan_plane.proofs.Polygon.Triangle.{held}
 use Rattle.plan_plane.proofs.Segment.Between.{between, on, swapped}
-use Rattle.plan_plane.proofs.Segment.Line.{right, right_of}
+use Rattle.plan_plane.proofs.Segment.Line.{right, formal_right}
 use Rattle.plan_cross.proofs.ParityLaw.Step.{over_reversed}
 use Rattle.plan_cross.proofs.ParityLaw.Tests.{over_right_of_a, over_past_both, over_before_both}
 
@@ -78,13 +78,13 @@ over_zero a b z e = by (le_or_lt (a.x *ℤ z.w) (z.x *ℤ a.w)) (le_or_lt (b.x *
 
 -- ---- what the three sides and the places of the corners have to do with each other
 moments : (a b c z : Vector) → turn b c z *ℤ right z a +ℤ turn c a z *ℤ right z b +ℤ turn a b z *ℤ right z c ≡ pos 0
-moments a b c z = ring (env [] (a ∷ b ∷ c ∷ z ∷ [])) (F.det B C D ⊗ right_of D A ⊕ F.det C A D ⊗ right_of D B ⊕ F.det A B D ⊗ right_of D C) F.zero tt
+moments a b c z = ring (env [] (a ∷ b ∷ c ∷ z ∷ [])) (F.det B C D ⊗ formal_right D A ⊕ F.det C A D ⊗ formal_right D B ⊕ F.det A B D ⊗ formal_right D C) F.zero tt
 
 weights : (a b c z : Vector) → turn b c z *ℤ a.w +ℤ turn c a z *ℤ b.w +ℤ turn a b z *ℤ c.w ≡ turn a b c *ℤ z.w
 weights a b c z = ring (env [] (a ∷ b ∷ c ∷ z ∷ [])) (F.det B C D ⊗ A.w ⊕ F.det C A D ⊗ B.w ⊕ F.det A B D ⊗ C.w) (F.det A B C ⊗ D.w) tt
 
 flat : (a b c z : Vector) → IsPoint z → right z a ≡ pos 0 → right z b ≡ pos 0 → right z c ≡ pos 0 → turn a b c ≡ pos 0
-flat a b c z hz ra rb rc = eq_from (env [] (a ∷ b ∷ c ∷ z ∷ [])) D.w ((F.cross B C).x ⊗ right_of D A ⊕ (F.cross C A).x ⊗ right_of D B ⊕ (F.cross A B).x ⊗ right_of D C) (F.det A B C) F.zero tt hz (search zeros)
+flat a b c z hz ra rb rc = eq_from (env [] (a ∷ b ∷ c ∷ z ∷ [])) D.w ((F.cross B C).x ⊗ formal_right D A ⊕ (F.cross C A).x ⊗ formal_right D B ⊕ (F.cross A B).x ⊗ formal_right D C) (F.det A B C) F.zero tt hz (search zeros)
 
 lt_in : (x y : ℤ) → int_lt x y ≡ true → x <ℤ y
 lt_in x y e = omega (arith, ints)
@@ -109,9 +109,9 @@ odd_inside a b c z hz left ta tb tc =
   where
     all_left : right z a ≤ℤ pos 0 → right z b ≤ℤ pos 0 → right z c ≤ℤ pos 0 → ⊥
     all_left ra rb rc =
-        let pa = mul_nonneg_nonpos (nonneg_of_pos ta) ra in
-        let pb = mul_nonneg_nonpos (nonneg_of_pos tb) rb in
-        let pc = mul_nonneg_nonpos (nonneg_of_pos tc) rc in
+        let pa = mul_nonneg_nonpos (le_of_lt ta) ra in
+        let pb = mul_nonneg_nonpos (le_of_lt tb) rb in
+        let pc = mul_nonneg_nonpos (le_of_lt tc) rc in
         let m = moments a b c z in
         let za = zero_of_mul (turn b c z) (right z a) ta (omega (arith, linear, m, pa, pb, pc)) in
         let zb = zero_of_mul (turn c a z) (right z b) tb (omega (arith, linear, m, pa, pb, pc)) in
@@ -144,7 +144,7 @@ even_pos_pos a b c z tc ta tb =
     by true false false e f g = refl
     by false true true e f g = refl
     by false true false e f g = refl
-    by false false true e f g = absurd (omega (arith, linear, moments a b c z, mul_nonneg_nonpos (nonneg_of_pos ta) (is_nonpos z a e), mul_nonneg_nonpos (nonneg_of_pos tb) (is_nonpos z b f), mul_neg_pos tc (is_pos z c g)))
+    by false false true e f g = absurd (omega (arith, linear, moments a b c z, mul_nonneg_nonpos (le_of_lt ta) (is_nonpos z a e), mul_nonneg_nonpos (le_of_lt tb) (is_nonpos z b f), mul_neg_pos tc (is_pos z c g)))
     by false false false e f g = refl
 
 even_zero_pos : (a b c z : Vector) → turn a b z <ℤ pos 0 → turn b c z ≡ pos 0 → pos 0 <ℤ turn c a z → parity (edges (a ∷ b ∷ c ∷ [])) z ≡ false
@@ -159,7 +159,7 @@ even_zero_pos a b c z tc ta tb =
     by true false false e f g = refl
     by false true true e f g = refl
     by false true false e f g = absurd (omega (arith, linear, moments a b c z, zero_left (right z a) ta, mul_pos tb (is_pos z b f), mul_nonpos (le tc) (is_nonpos z c g)))
-    by false false true e f g = absurd (omega (arith, linear, moments a b c z, zero_left (right z a) ta, mul_nonneg_nonpos (nonneg_of_pos tb) (is_nonpos z b f), mul_neg_pos tc (is_pos z c g)))
+    by false false true e f g = absurd (omega (arith, linear, moments a b c z, zero_left (right z a) ta, mul_nonneg_nonpos (le_of_lt tb) (is_nonpos z b f), mul_neg_pos tc (is_pos z c g)))
     by false false false e f g = refl
 
 even_pos_zero : (a b c z : Vector) → turn a b z <ℤ pos 0 → pos 0 <ℤ turn b c z → turn c a z ≡ pos 0 → parity (edges (a ∷ b ∷ c ∷ [])) z ≡ false
@@ -172,7 +172,7 @@ even_pos_zero a b c z tc ta tb =
     by true true false e f g = absurd (omega (arith, linear, moments a b c z, mul_pos ta (is_pos z a e), zero_left (right z b) tb, mul_nonpos (le tc) (is_nonpos z c g)))
     by true false true e f g = refl
     by true false false e f g = refl
-    by false true true e f g = absurd (omega (arith, linear, moments a b c z, mul_nonneg_nonpos (nonneg_of_pos ta) (is_nonpos z a e), zero_left (right z b) tb, mul_neg_pos tc (is_pos z c g)))
+    by false true true e f g = absurd (omega (arith, linear, moments a b c z, mul_nonneg_nonpos (le_of_lt ta) (is_nonpos z a e), zero_left (right z b) tb, mul_neg_pos tc (is_pos z c g)))
     by false true false e f g = refl
     by false false true e f g = refl
     by false false false e f g = refl
@@ -185,7 +185,7 @@ even_neg_pos a b c z tc ta tb =
     by : (x y w : Bool) → is_right z a ≡ x → is_right z b ≡ y → is_right z c ≡ w → xor (not x && y) (xor (not y && w) (xor (w && not x) false)) ≡ false
     by true true true e f g = refl
     by true true false e f g = refl
-    by true false true e f g = absurd (omega (arith, linear, moments a b c z, mul_neg_pos ta (is_pos z a e), mul_nonneg_nonpos (nonneg_of_pos tb) (is_nonpos z b f), mul_neg_pos tc (is_pos z c g)))
+    by true false true e f g = absurd (omega (arith, linear, moments a b c z, mul_neg_pos ta (is_pos z a e), mul_nonneg_nonpos (le_of_lt tb) (is_nonpos z b f), mul_neg_pos tc (is_pos z c g)))
     by true false false e f g = refl
     by false true true e f g = refl
     by false true false e f g = absurd (omega (arith, linear, moments a b c z, mul_nonpos (le ta) (is_nonpos z a e), mul_pos tb (is_pos z b f), mul_nonpos (le tc) (is_nonpos z c g)))
@@ -202,7 +202,7 @@ even_pos_neg a b c z tc ta tb =
     by true true false e f g = refl
     by true false true e f g = refl
     by true false false e f g = absurd (omega (arith, linear, moments a b c z, mul_pos ta (is_pos z a e), mul_nonpos (le tb) (is_nonpos z b f), mul_nonpos (le tc) (is_nonpos z c g)))
-    by false true true e f g = absurd (omega (arith, linear, moments a b c z, mul_nonneg_nonpos (nonneg_of_pos ta) (is_nonpos z a e), mul_neg_pos tb (is_pos z b f), mul_neg_pos tc (is_pos z c g)))
+    by false true true e f g = absurd (omega (arith, linear, moments a b c z, mul_nonneg_nonpos (le_of_lt ta) (is_nonpos z a e), mul_neg_pos tb (is_pos z b f), mul_neg_pos tc (is_pos z c g)))
     by false true false e f g = refl
     by false false true e f g = refl
     by false false false e f g = refl
@@ -211,7 +211,7 @@ even_right : (a b c z : Vector) → IsPoint a → IsPoint b → IsPoint c → Is
 even_right a b c z ha hb hc hz left tc = by (sign_of (turn b c z)) (sign_of (turn c a z))
   where
     none : turn b c z ≤ℤ pos 0 → turn c a z ≤ℤ pos 0 → ⊥
-    none ta tb = omega (arith, linear, weights a b c z, mul_pos left hz, mul_nonpos_nonneg ta (nonneg_of_pos ha), mul_nonpos_nonneg tb (nonneg_of_pos hb), mul_neg_pos tc hc)
+    none ta tb = omega (arith, linear, weights a b c z, mul_pos left hz, mul_nonpos_nonneg ta (le_of_lt ha), mul_nonpos_nonneg tb (le_of_lt hb), mul_neg_pos tc hc)
 
     by : Sign (turn b c z) → Sign (turn c a z) → parity (edges (a ∷ b ∷ c ∷ [])) z ≡ false
     by (is_positive ta) (is_positive tb) = even_pos_pos a b c z tc ta tb

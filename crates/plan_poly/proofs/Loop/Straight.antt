@@ -14,7 +14,7 @@ use Rattle.plan_spec.specs.Vector.{IsPoint, Same, Before, turn}
 use Rattle.plan_plane.proofs.Lists.{all_right}
 use Rattle.plan_plane.proofs.Polygon.Corner.{polygon, corner_edges}
 use Rattle.plan_plane.proofs.Segment.Between.{Between, LtX_after, flip, flipped, on, swapped}
-use Rattle.plan_plane.proofs.Segment.Line.{right, right_of}
+use Rattle.plan_plane.proofs.Segment.Line.{right, formal_right}
 use Rattle.plan_plane.proofs.Segment.Middle.{Middle, first, second, third, middle}
 use Rattle.plan_plane.proofs.Segment.Same.{Same-swapped}
 use Rattle.plan_plane.proofs.Segment.AtEnds.{first_weight, second_weight, pos_by_first, pos_by_second}
@@ -26,7 +26,7 @@ abbrev line_right : Vector → Vector
 line_right v = record { x = v.w; y = pos 0; w = neg_ℤ v.x }
 
 line_right_is : (v p : Vector) → dot (line_right v) p ≡ right v p
-line_right_is v p = ring (env [] (v ∷ p ∷ [])) (F.dot (record { x = A.w; y = F.zero; w = neg A.x }) B) (right_of A B) tt
+line_right_is v p = ring (env [] (v ∷ p ∷ [])) (F.dot (record { x = A.w; y = F.zero; w = neg A.x }) B) (formal_right A B) tt
 
 -- v is before both, so not between them
 not_between : (v w u : Vector) → IsPoint v → Before v w → Before v u → ¬ (Same v u) → ¬ (Same v w) → ¬ (Between u w v)

@@ -8,14 +8,14 @@ use Rattle.plan_exact.specs.Sign.{Sign, is_negative, is_zero, is_positive, is_le
 use Rattle.plan_exact.specs.Vectors.{Vector, dot, env, opposite, cross}
 use Rattle.plan_exact.proofs.Laws.{linear}
 use Rattle.plan_exact.proofs.Ring.{ring}
-use Rattle.plan_exact.proofs.Signs.{mul_pos, mul_nonneg_nonpos, mul_of_zero, le_or_lt, nonneg_of_pos, mul_pos_neg, sign_of, mul_neg, zero_of_mul, pos_of_mul, order_of}
+use Rattle.plan_exact.proofs.Signs.{mul_pos, mul_nonneg_nonpos, mul_of_zero, le_or_lt, le_of_lt, mul_pos_neg, sign_of, mul_neg, zero_of_mul, pos_of_mul, order_of}
 use Rattle.plan_exact.proofs.Vectors.{det_turned, det_swapped, dot_opposite}
 use Rattle.plan_spec.specs.Segment.{On, segment, Common}
 use Rattle.plan_spec.specs.Vector.{Vector, Same, turn, IsPoint}
-use Rattle.plan_plane.proofs.Crossing.Sides.{crossing}
+use Rattle.plan_plane.proofs.Crossing.Sides.{common_by_sides}
 use Rattle.plan_plane.proofs.Segment.SameSign.{pos_same, zero_same}
 use Rattle.plan_plane.proofs.Segment.Facing.{facing, facing_from, facing_to, facing_zero}
-use Rattle.plan_plane.proofs.Segment.Between.{Between, between, value, on, swapped, pos_at, between_second, between_first, zero_at}
+use Rattle.plan_plane.proofs.Segment.Between.{Between, between, dot_between, on, swapped, pos_at, between_second, between_first, zero_at}
 use Rattle.plan_plane.proofs.Segment.Middle.{first, Middle, second, third, middle}
 use Rattle.plan_plane.proofs.Segment.OneLine.{in_line}
 use Rattle.plan_plane.proofs.Segment.Part.{between_part}
@@ -50,7 +50,7 @@ ahead m a z hm ha hz apart o = by (le_or_lt (dot (facing m z) a) (pos 0))
     by (inl h) =
         let b = between m a z hm ha hz o in
         let l = facing m z in
-        absurd (omega (arith, linear, value b l, mul_pos b.scale_positive (facing_to m z apart), mul_of_zero b.first (dot l m) (facing_from m z), mul_nonneg_nonpos b.second_nonneg h))
+        absurd (omega (arith, linear, dot_between b l, mul_pos b.scale_positive (facing_to m z apart), mul_of_zero b.first (dot l m) (facing_from m z), mul_nonneg_nonpos b.second_nonneg h))
 
 pub neighbours : (m a b : Vector) → IsPoint m → IsPoint a → IsPoint b → ((z : Vector) × IsPoint z × On (segment m a) z × On (segment m b) z × ¬ (Same z m)) ↔ (Beyond m a b ⊎ Beyond m b a)
 neighbours m a b hm ha hb = (from, to)
@@ -93,7 +93,7 @@ balance a b c d = ring (env [] (a ∷ b ∷ c ∷ d ∷ [])) (D.w ⊗ F.det A B 
 upward : (a b c d : Vector) → IsPoint a → IsPoint b → turn a b c <ℤ pos 0 → pos 0 <ℤ turn a b d → pos 0 <ℤ turn c d a → turn c d b <ℤ pos 0 → Common (segment a b) (segment c d)
 upward a b c d ha hb hc hd ka kb =
     let n : pos 0 <ℤ neg_ℤ (turn c d b) = omega (arith, linear) in
-    crossing a b c d (omega (arith, linear)) (nonneg_of_pos hd) (nonneg_of_pos ka) (omega (arith, linear)) (omega (arith, linear, mul_pos n ha, mul_pos ka hb))
+    common_by_sides a b c d (omega (arith, linear)) (le_of_lt hd) (le_of_lt ka) (omega (arith, linear)) (omega (arith, linear, mul_pos n ha, mul_pos ka hb))
 
 pub from_shares : (a b c d : Vector) → IsPoint a → IsPoint b → IsPoint c → IsPoint d → Shares a b c d → Common (segment a b) (segment c d)
 from_shares a b c d ha hb hc hd (inl (inl o)) = (c, hc, o, on (between_first c d hc))
@@ -112,7 +112,7 @@ sides : (l c d z : Vector) → (m : Between c d z) → dot l z ≡ pos 0 → pos
 sides l c d z m zero w1 w2 = by (sign_of (dot l c))
   where
     total : m.first *ℤ dot l c +ℤ m.second *ℤ dot l d ≡ pos 0
-    total = omega (arith, linear, value m l, mul_of_zero m.scale (dot l z) zero)
+    total = omega (arith, linear, dot_between m l, mul_of_zero m.scale (dot l z) zero)
 
     by : Sign (dot l c) → Opposed (dot l c) (dot l d) ⊎ ((dot l c ≡ pos 0) × (dot l d ≡ pos 0))
     by (is_positive h) =

@@ -8,12 +8,12 @@ use Rattle.plan_exact.specs.Formal.{A, B, C, J, K}
 use Rattle.plan_exact.proofs.Laws.{linear}
 use Rattle.plan_exact.proofs.Ring.{ring}
 use Rattle.plan_exact.proofs.RingVectors.{ring_vectors}
-use Rattle.plan_exact.proofs.Signs.{mul_pos, mul_one, mul_of_zero, mul_nonneg_nonpos, nonpos_of_mul, nonneg_of_pos, square_nonneg, le_or_lt}
+use Rattle.plan_exact.proofs.Signs.{mul_pos, mul_one, mul_of_zero, mul_nonneg_nonpos, nonpos_of_mul, le_of_lt, square_nonneg, le_or_lt}
 use Rattle.plan_spec.specs.Vector.{Vector, IsPoint, LeX, LtX, spot, turn, minus}
-use Rattle.plan_spec.specs.Segment.{On}
+use Rattle.plan_spec.specs.Segment.{segment, AnyOn}
 use Rattle.plan_spec.specs.Frame.{Frame, OnOrBeyond}
 use Rattle.plan_spec.specs.Placement.{Holds, Leaves}
-use Rattle.plan_plane.proofs.Segment.Between.{Between, between, on, between_first, between_second, LtX_before, LtX_after, flip, flipped as between_flipped}
+use Rattle.plan_plane.proofs.Segment.Between.{Between, between, on, between_first, between_second, LtX_before, LtX_after, flip, flipped as between_flipped, right_of as right_of_point, right_of_is as right_of_point_is}
 use Rattle.plan_plane.proofs.Polygon.Triangle.{Among, flipped, nonneg_at, holds_among, among_holds}
 
 abbrev pub IsSpot : Vector → Type 0
@@ -46,9 +46,6 @@ shifted l n = record { x = l.x; y = l.y; w = l.w +ℤ n }
 abbrev placed : Vector → Vector → Vector
 placed p r = record { x = p.x *ℤ r.w +ℤ r.x *ℤ p.w; y = p.y *ℤ r.w +ℤ r.y *ℤ p.w; w = p.w *ℤ r.w }
 
-abbrev formal_minus : F.Vec → F.Vec → F.Vec
-formal_minus z p = record { x = z.x ⊗ p.w ⊖ p.x ⊗ z.w; y = z.y ⊗ p.w ⊖ p.y ⊗ z.w; w = z.w ⊗ p.w }
-
 abbrev formal_placed : F.Vec → F.Vec → F.Vec
 formal_placed p r = record { x = p.x ⊗ r.w ⊕ r.x ⊗ p.w; y = p.y ⊗ r.w ⊕ r.y ⊗ p.w; w = p.w ⊗ r.w }
 
@@ -56,15 +53,15 @@ beyond_room : (l : Vector) (n : ℤ) (p z : Vector) {a b c : Vector} → IsPoint
     → pos 0 ≤ℤ dot (facing l n) a → pos 0 ≤ℤ dot (facing l n) b → pos 0 ≤ℤ dot (facing l n) c → dot l z ≤ℤ pos 0 → dot (shifted l n) p ≤ℤ pos 0
 beyond_room l n p z {a} {b} {c} hp hz m ha hb hc beyond =
     let e : z.w *ℤ dot (shifted l n) p ≡ p.w *ℤ dot l z -ℤ dot (facing l n) (minus z p) =
-    ring (env (n ∷ []) (l ∷ z ∷ p ∷ [])) (B.w ⊗ F.dot (record { x = A.x; y = A.y; w = A.w ⊕ J }) C) (C.w ⊗ F.dot A B ⊖ F.dot (record { x = A.x; y = A.y; w = neg J }) (formal_minus B C)) tt in
-    let h : (z.w *ℤ dot (shifted l n) p) ≤ℤ pos 0 = omega (arith, linear, e, nonneg_at m (facing l n) ha hb hc, mul_nonneg_nonpos (nonneg_of_pos hp) beyond) in
+    ring (env (n ∷ []) (l ∷ z ∷ p ∷ [])) (B.w ⊗ F.dot (record { x = A.x; y = A.y; w = A.w ⊕ J }) C) (C.w ⊗ F.dot A B ⊖ F.dot (record { x = A.x; y = A.y; w = neg J }) (F.minus B C)) tt in
+    let h : (z.w *ℤ dot (shifted l n) p) ≤ℤ pos 0 = omega (arith, linear, e, nonneg_at m (facing l n) ha hb hc, mul_nonneg_nonpos (le_of_lt hp) beyond) in
     nonpos_of_mul hz h
 
 beyond_frame : (l : Vector) (n : ℤ) (p r : Vector) → IsPoint r → dot (facing l n) r ≡ pos 0 → dot (shifted l n) p ≤ℤ pos 0 → dot l (placed p r) ≤ℤ pos 0
 beyond_frame l n p r hr e beyond =
     let f : dot l (placed p r) ≡ r.w *ℤ dot (shifted l n) p +ℤ p.w *ℤ dot (facing l n) r =
     ring (env (n ∷ []) (l ∷ p ∷ r ∷ [])) (F.dot A (formal_placed B C)) (C.w ⊗ F.dot (record { x = A.x; y = A.y; w = A.w ⊕ J }) B ⊕ B.w ⊗ F.dot (record { x = A.x; y = A.y; w = neg J }) C) tt in
-    omega (arith, linear, f, mul_nonneg_nonpos (nonneg_of_pos hr) beyond, mul_of_zero p.w (dot (facing l n) r) e)
+    omega (arith, linear, f, mul_nonneg_nonpos (le_of_lt hr) beyond, mul_of_zero p.w (dot (facing l n) r) e)
 
 -- ---- a corner is a point of the robot
 weighted : (a b c z : Vector) (i j k : ℤ) → pos 0 ≤ℤ i → pos 0 ≤ℤ j → pos 0 ≤ℤ k → scaled (pos 1) z ≡ sum (sum (scaled i a) (scaled j b)) (scaled k c) → Among a b c z
@@ -88,18 +85,18 @@ corner_among a b c r k hk (i, within, e) = subst (λ v. Among a b c (scaled k v)
 corner_holds : (a b c r p : Vector) → ¬ (turn a b c ≡ pos 0) → Contains (a ∷ b ∷ c ∷ []) r → Holds (a ∷ b ∷ c ∷ []) (minus (placed p r) p)
 corner_holds a b c r p apart has =
     among_holds a b c (minus (placed p r) p) apart
-    (subst (Among a b c) (ring_vectors (env [] (p ∷ r ∷ [])) (F.scaled (A.w ⊗ A.w) B) (formal_minus (formal_placed A B) A) tt) (corner_among a b c r (p.w *ℤ p.w) (square_nonneg p.w) has))
+    (subst (Among a b c) (ring_vectors (env [] (p ∷ r ∷ [])) (F.scaled (A.w ⊗ A.w) B) (F.minus (formal_placed A B) A) tt) (corner_among a b c r (p.w *ℤ p.w) (square_nonneg p.w) has))
 
 -- ---- the sides: left of a low corner, and right of a high one
 -- positive right of x = m, and left of it
 abbrev pub right_of : ℤ → Vector
-right_of m = record { x = pos 1; y = pos 0; w = neg_ℤ m }
+right_of m = right_of_point (spot m (pos 0))
 
 abbrev pub left_of : ℤ → Vector
 left_of m = record { x = negsuc 0; y = pos 0; w = m }
 
 pub right_of_is : (m : ℤ) (z : Vector) → dot (right_of m) z ≡ z.x -ℤ m *ℤ z.w
-right_of_is m z = ring (env (m ∷ []) (z ∷ [])) (F.dot (record { x = con (pos 1); y = F.zero; w = neg J }) A) (A.x ⊖ J ⊗ A.w) tt
+right_of_is m z = right_of_point_is (spot m (pos 0)) z ∙ ap (λ x. x -ℤ m *ℤ z.w) (mul_one z.x)
 
 pub left_of_is : (m : ℤ) (z : Vector) → dot (left_of m) z ≡ m *ℤ z.w -ℤ z.x
 left_of_is m z = ring (env (m ∷ []) (z ∷ [])) (F.dot (record { x = con (negsuc 0); y = F.zero; w = J }) A) (J ⊗ A.w ⊖ A.x) tt
@@ -218,14 +215,14 @@ end_after {p} {q} {z} hz b r h = by (le_or_lt (r.x *ℤ p.w) (p.x *ℤ r.w)) (le
     by (inr k) (inr l) = absurd (omega (arith, linear, LtX_before hz b r k l))
 
 pub segment_beyond : (frame : Frame) (p q : Vector) → IsPoint p → IsPoint q
-    → ((z : Vector) × IsPoint z × On (record { a = p; b = q }) z × OnOrBeyond frame z) ↔ (OnOrBeyond frame p ⊎ OnOrBeyond frame q)
+    → AnyOn (OnOrBeyond frame) (segment p q) ↔ (OnOrBeyond frame p ⊎ OnOrBeyond frame q)
 segment_beyond frame p q hp hq = (into, out)
   where
-    out : OnOrBeyond frame p ⊎ OnOrBeyond frame q → (z : Vector) × IsPoint z × On (record { a = p; b = q }) z × OnOrBeyond frame z
+    out : OnOrBeyond frame p ⊎ OnOrBeyond frame q → AnyOn (OnOrBeyond frame) (segment p q)
     out (inl h) = (p, hp, on (between_first p q hp), h)
     out (inr h) = (q, hq, on (between_second p q hq), h)
 
-    into : (z : Vector) × IsPoint z × On (record { a = p; b = q }) z × OnOrBeyond frame z → OnOrBeyond frame p ⊎ OnOrBeyond frame q
+    into : AnyOn (OnOrBeyond frame) (segment p q) → OnOrBeyond frame p ⊎ OnOrBeyond frame q
     into (z, hz, oz, beyond) = by beyond
       where
         b : Between p q z
@@ -236,10 +233,3 @@ segment_beyond frame p q hp hq = (into, out)
         by (inr (inl h)) = ⊎_elim (λ k. inl (inr (inl k))) (λ k. inr (inr (inl k))) (end_after hz b frame.high h)
         by (inr (inr (inl h))) = ⊎_elim (λ k. inl (inr (inr (inl k)))) (λ k. inr (inr (inr (inl k)))) (end_before hz (between_flipped b) (flip frame.low) h)
         by (inr (inr (inr h))) = ⊎_elim (λ k. inl (inr (inr (inr k)))) (λ k. inr (inr (inr (inr k)))) (end_after hz (between_flipped b) (flip frame.high) h)
-
-pub segment_leaves : (a b c : Vector) (box frame : Frame) (p q : Vector) → ¬ (turn a b c ≡ pos 0) → IsBox (a ∷ b ∷ c ∷ []) box → IsSpot frame.low → IsSpot frame.high → IsPoint p → IsPoint q
-    → ((z : Vector) × IsPoint z × On (record { a = p; b = q }) z × Leaves (a ∷ b ∷ c ∷ []) frame z) ↔ (OnOrBeyond (room box frame) p ⊎ OnOrBeyond (room box frame) q)
-segment_leaves a b c box frame p q apart is_box hl hh hp hq = (λ t. (segment_beyond (room box frame) p q hp hq).0 (t.0, t.1, t.2, (at t.0 t.1).0 t.3), λ s. let t = (segment_beyond (room box frame) p q hp hq).1 s in (t.0, t.1, t.2, (at t.0 t.1).1 t.3))
-  where
-    at : (z : Vector) → IsPoint z → Leaves (a ∷ b ∷ c ∷ []) frame z ↔ OnOrBeyond (room box frame) z
-    at z = leaves a b c box frame z apart is_box hl hh

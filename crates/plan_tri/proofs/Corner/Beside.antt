@@ -6,7 +6,7 @@ use Rattle.plan_exact.specs.Formal.{A, B, J}
 use Rattle.plan_exact.specs.Vectors.{Vector, env, dot}
 use Rattle.plan_exact.proofs.Certificates.{lt_from}
 use Rattle.plan_exact.proofs.Laws.{linear}
-use Rattle.plan_exact.proofs.Signs.{signs, mul_nonneg, nonneg_of_pos, square_nonneg, square_pos, mul_zero}
+use Rattle.plan_exact.proofs.Signs.{signs, mul_nonneg, le_of_lt, square_nonneg, square_pos, mul_zero}
 use Rattle.plan_spec.specs.Chain.{IsClosed}
 use Rattle.plan_spec.specs.Parity.{parity, xor}
 use Rattle.plan_spec.specs.Segment.{Segment, segment, Common, HasPoints, On}
@@ -62,7 +62,7 @@ free {v} {w} {u} {g} {l} {t} {z} o s (hs, inl clean) =
       on = λ n large.
           let one = at_least_one b.positive large in
           let d = b.on n large in
-          let h1 = step_point v z n hv (nonneg_of_pos o.point) (above_one one) in
+          let h1 = step_point v z n hv (le_of_lt o.point) (above_one one) in
           let h2 = step_point v (leftward t) n hv (omega (arith, linear)) (above_one one) in (
             λ c. clean c.0 c.1 c.3 (corner_between c.1 (between z (step n v z) c.0 o.point h1 c.1 c.2) o.inside (towards_v o.corner n one o.inside)),
             misses_by d.line (step n v z) (step n v (leftward t)) s h1 h2 hs d.at_b d.at_c d.first d.second,
@@ -76,7 +76,7 @@ free {v} {w} {u} {g} {l} {t} {z} o s (hs, inr behind) =
       on = λ n large.
           let one = at_least_one o.beyond.positive large in
           let m : pos 0 ≤ℤ n = omega (arith, linear) in
-          let h1 = step_point v z n hv (nonneg_of_pos o.point) (above_one one) in
+          let h1 = step_point v z n hv (le_of_lt o.point) (above_one one) in
           let h2 = step_point v (leftward t) n hv (omega (arith, linear)) (above_one one) in
           let p : pos 0 <ℤ dot l (step n v z) = omega (arith, linear, step_value n v z l, mul_nonneg m o.at_v, o.at_z) in (
             misses_by l z (step n v z) s o.point h1 hs o.at_z p behind.first behind.second,
@@ -93,7 +93,7 @@ out {v} {w} {u} {g} {l} {t} {z} o chain points closed rightward clear =
     let m : pos 0 ≤ℤ n = omega (arith, linear) in
     let f = b.on n large in
     let hv = o.corner.point_v in
-    let h1 = step_point v z n hv (nonneg_of_pos o.point) (above_one one) in
+    let h1 = step_point v z n hv (le_of_lt o.point) (above_one one) in
     let h2 = step_point v (leftward t) n hv (omega (arith, linear)) (above_one one) in
     parity_constant chain z (step n v z) points closed o.point h1 (λ k d within. (f k d within).0)
     ∙ parity_constant chain (step n v z) (step n v (leftward t)) points closed h1 h2 (λ k d within. (f k d within).1)
@@ -127,7 +127,7 @@ pub beside_ahead : {v w u g : Vector} → Corner v w u g → (l : Vector) → po
 beside_ahead {v} {w} {u} {g} k l at_v chain points closed rightward clear z hz inside at_z =
     let o : Out v w u g l (pos 0) z = record {
       corner = k;
-      at_v = nonneg_of_pos at_v;
+      at_v = le_of_lt at_v;
       beyond = from_near l v (leftward (pos 0)) at_v;
       point = hz;
       inside = inside;

@@ -3,7 +3,7 @@ use Rattle.std.proofs.Common.{ℤ, pos, ◌≤ℤ◌, ◌<ℤ◌, List, All, ◌
 use Rattle.std.proofs.lemmas.List.Elements.{All-nil, All-cons, All-append}
 use Rattle.plan_exact.specs.Vectors.{Vector, dot, cross}
 use Rattle.plan_exact.proofs.Laws.{linear}
-use Rattle.plan_exact.proofs.Signs.{nonneg_or_neg, nonneg_of_pos, le_or_lt}
+use Rattle.plan_exact.proofs.Signs.{le_or_lt, le_of_lt}
 use Rattle.plan_spec.specs.Segment.{segment}
 use Rattle.plan_spec.specs.Vector.{IsPoint, turn, Same}
 use Rattle.plan_plane.proofs.Segment.Apart.{off_by}
@@ -42,7 +42,7 @@ Outside v w u g e = IsPoint e × ¬ (InCorner v w u g e)
 -- the segment a b comes in between its end e, where g is positive, and its point z
 entering : {v w u g : Vector} {mid : List Vector} → Shape v w u g mid → (a b e z : Vector) → Outside v w u g a → Outside v w u g b → Outside v w u g e
     → MeetRight (segment v w) (segment a b) → MeetRight (segment u v) (segment a b) → IsPoint z → InCorner v w u g z → pos 0 <ℤ dot g e → ((c : Vector) → Between e z c → Between a b c) → ⊥
-entering {v} {w} {u} {g} k a b e z oa ob oe first last hz i ge part = by (nonneg_or_neg (turn v w e)) (nonneg_or_neg (turn u v e))
+entering {v} {w} {u} {g} k a b e z oa ob oe first last hz i ge part = by (le_or_lt (pos 0) (turn v w e)) (le_or_lt (pos 0) (turn u v e))
   where
     at_end : (c : Vector) → IsPoint c → InCorner v w u g c → IsEnd (segment a b) c → ⊥
     at_end c hc j (inl same) = oa.1 (corner_same hc oa.0 same j)
@@ -54,12 +54,12 @@ entering {v} {w} {u} {g} k a b e z oa ob oe first last hz i ge part = by (nonneg
     at : (c : Vector) → IsPoint c → Between e z c → ((turn v w c ≡ pos 0) × (pos 0 ≤ℤ turn u v c)) ⊎ ((turn u v c ≡ pos 0) × (pos 0 ≤ℤ turn v w c)) → ⊥
     at c hc m (inl s) =
         let gc = pos_at hc m g ge i.within in
-        let fc = nonneg_of_pos (k.ahead c hc gc) in
+        let fc = le_of_lt (k.ahead c hc gc) in
         let j : InCorner v w u g c = record { after = nonneg s.0; before = s.1; within = gc } in
         at_end c hc j (first c hc (on (on_first v w u c k.corner.turns_left s.0 fc s.1)) (on (part c m))).1
     at c hc m (inr s) =
         let gc = pos_at hc m g ge i.within in
-        let fc = nonneg_of_pos (k.ahead c hc gc) in
+        let fc = le_of_lt (k.ahead c hc gc) in
         let j : InCorner v w u g c = record { after = s.1; before = nonneg s.0; within = gc } in
         at_end c hc j (last c hc (on (on_last v w u c k.corner.turns_left s.0 fc s.1)) (on (part c m))).1
 

@@ -9,7 +9,7 @@ use Rattle.plan_exact.specs.Vectors.{env, cross, dot}
 use Rattle.plan_exact.proofs.Certificates.{eq_from, lt_from}
 use Rattle.plan_exact.proofs.Laws.{linear, mul_comm}
 use Rattle.plan_exact.proofs.Ring.{ring}
-use Rattle.plan_exact.proofs.Signs.{order_of, zeros, mul_pos, mul_nonneg, nonneg_of_pos, pos_of_mul}
+use Rattle.plan_exact.proofs.Signs.{order_of, zeros, mul_pos, mul_nonneg, le_of_lt, pos_of_mul}
 use Rattle.plan_exact.proofs.Vectors.{cross_on_left, cross_on_right}
 use Rattle.plan_spec.specs.Route.{segments_from}
 use Rattle.plan_spec.specs.Segment.{segment}
@@ -21,7 +21,7 @@ use Rattle.plan_plane.proofs.Polygon.Cut.{whole, chain}
 use Rattle.plan_plane.proofs.Polygon.Edges.{segments_append, edges_cut}
 use Rattle.plan_plane.proofs.Polygon.Sides.{on_first, on_last}
 use Rattle.plan_plane.proofs.Segment.Between.{on}
-use Rattle.plan_plane.proofs.Segment.Line.{right, right_of, above_of}
+use Rattle.plan_plane.proofs.Segment.Line.{right, formal_right, formal_above}
 use Rattle.plan_plane.proofs.Segment.Same.{Same-swapped}
 use Rattle.plan_poly.proofs.Loop.Corner.{AtCorner, points_of, Points, first_meets, last_meets}
 use Rattle.plan_poly.proofs.Loop.Loop.{Loop, Differ}
@@ -121,7 +121,7 @@ flat : (v w u : Vector) → IsPoint v → SameX v w → SameX v u → turn u v w
 flat v w u hv ew eu =
     let fw : right v w ≡ pos 0 = omega (arith, linear) in
     let fu : right v u ≡ pos 0 = omega (arith, linear) in
-    eq_from (env [] (v ∷ w ∷ u ∷ [])) A.w (above_of A C ⊗ right_of A B ⊕ neg (above_of A B) ⊗ right_of A C) (F.det C A B) F.zero tt hv (search zeros)
+    eq_from (env [] (v ∷ w ∷ u ∷ [])) A.w (formal_above A C ⊗ formal_right A B ⊕ neg (formal_above A B) ⊗ formal_right A C) (F.det C A B) F.zero tt hv (search zeros)
 
 pub right_x : {v w : Vector} {before : List Vector} {x : Vector} {after : List Vector} {u : Vector} → AtCut v w before x after u → pos 0 <ℤ right v x
 right_x {v} {w} {before} {x} {after} {u} k = by bw bu
@@ -133,23 +133,23 @@ right_x {v} {w} {before} {x} {after} {u} k = by bw bu
     bu = All-head (Before v) u [] (all_right (Before v) (before ++ x ∷ after) (u ∷ []) (All-tail (Before v) w ((before ++ x ∷ after) ++ u ∷ []) k.at.least))
 
     go : pos 0 ≤ℤ right v w → pos 0 ≤ℤ right v u → pos 0 <ℤ (turn u v x *ℤ right v w +ℤ turn v w x *ℤ right v u) → pos 0 <ℤ right v x
-    go a b sum = lt_from (env [] (v ∷ w ∷ u ∷ x ∷ [])) (F.det C A B) (F.det C A D ⊗ right_of A B ⊕ F.det A B D ⊗ right_of A C) F.zero (right_of A D) tt k.at.turns_left sum
+    go a b sum = lt_from (env [] (v ∷ w ∷ u ∷ x ∷ [])) (F.det C A B) (F.det C A D ⊗ formal_right A B ⊕ F.det A B D ⊗ formal_right A C) F.zero (formal_right A D) tt k.at.turns_left sum
 
     by : Before v w → Before v u → pos 0 <ℤ right v x
     by (inl a) (inl b) =
         let p : pos 0 <ℤ right v w = omega (arith, linear) in
         let q : pos 0 <ℤ right v u = omega (arith, linear) in
-        go (nonneg_of_pos p) (nonneg_of_pos q) (omega (arith, linear, mul_pos (before_x k) p, mul_pos (after_x k) q))
+        go (le_of_lt p) (le_of_lt q) (omega (arith, linear, mul_pos (before_x k) p, mul_pos (after_x k) q))
     by (inl a) (inr b) =
         let p : pos 0 <ℤ right v w = omega (arith, linear) in
         let e = b.0 in
         let q : pos 0 ≤ℤ right v u = omega (arith, linear) in
-        go (nonneg_of_pos p) q (omega (arith, linear, mul_pos (before_x k) p, mul_nonneg (nonneg_of_pos (after_x k)) q))
+        go (le_of_lt p) q (omega (arith, linear, mul_pos (before_x k) p, mul_nonneg (le_of_lt (after_x k)) q))
     by (inr a) (inl b) =
         let e = a.0 in
         let p : pos 0 ≤ℤ right v w = omega (arith, linear) in
         let q : pos 0 <ℤ right v u = omega (arith, linear) in
-        go p (nonneg_of_pos q) (omega (arith, linear, mul_nonneg (nonneg_of_pos (before_x k)) p, mul_pos (after_x k) q))
+        go p (le_of_lt q) (omega (arith, linear, mul_nonneg (le_of_lt (before_x k)) p, mul_pos (after_x k) q))
     by (inr a) (inr b) = absurd (omega (arith, linear, flat v w u (points_of k.at).v_point a.0 b.0, k.at.turns_left))
 
 -- ---- the covector that is positive where a point is farther than x
@@ -179,8 +179,8 @@ corner_of {v} {w} {before} {x} {after} {u} k =
 pub shape_of : {v w : Vector} {before : List Vector} {x : Vector} {after : List Vector} {u : Vector} → AtCut v w before x after u → Shape v w u (far w u x) (before ++ x ∷ after)
 shape_of {v} {w} {before} {x} {after} {u} k = record {
   corner = corner_of k;
-  at_w = omega (arith, linear, far_value w u x w, zero_left, mul_nonneg k.inside.ahead (nonneg_of_pos p.w_point));
-  at_u = omega (arith, linear, far_value w u x u, zero_right, mul_nonneg k.inside.ahead (nonneg_of_pos p.u_point));
+  at_w = omega (arith, linear, far_value w u x w, zero_left, mul_nonneg k.inside.ahead (le_of_lt p.w_point));
+  at_u = omega (arith, linear, far_value w u x u, zero_right, mul_nonneg k.inside.ahead (le_of_lt p.u_point));
   ahead = ahead;
   points = p.mid_points;
   none = λ i d within. none (get_or (before ++ x ∷ after) i d) (p.mid_points i d within) (k.farthest i d within);
@@ -198,11 +198,11 @@ shape_of {v} {w} {before} {x} {after} {u} k = record {
     zero_right = let e = cross_on_right w u in search zeros
 
     ahead : (z : Vector) → IsPoint z → pos 0 <ℤ dot (far w u x) z → pos 0 <ℤ turn w u z
-    ahead z hz h = pos_of_mul (x_point k) (omega (arith, linear, far_value w u x z, mul_nonneg k.inside.ahead (nonneg_of_pos hz)))
+    ahead z hz h = pos_of_mul (x_point k) (omega (arith, linear, far_value w u x z, mul_nonneg k.inside.ahead (le_of_lt hz)))
 
     none : (m : Vector) → IsPoint m → (InTriangle v w u m → ¬ (Farther w u m x)) → ¬ (InCorner v w u (far w u x) m)
     none m hm not_farther i =
-        not_farther (record { after = i.after; ahead = nonneg_of_pos (ahead m hm i.within); before = i.before })
+        not_farther (record { after = i.after; ahead = le_of_lt (ahead m hm i.within); before = i.before })
         (omega (arith, linear, far_value w u x m, i.within, mul_comm x.w (turn w u m)))
 
 pub path_clean : {v w : Vector} {before : List Vector} {x : Vector} {after : List Vector} {u : Vector} → AtCut v w before x after u → All (Clean v w u (far w u x)) (chain w (before ++ x ∷ after) u)

@@ -3,7 +3,7 @@ use Rattle.std.proofs.Common.{inl, inr, pos, ◌<ℤ◌, ◌≡◌, true, List, 
 use Rattle.std.proofs.lemmas.List.Elements.{All-contains}
 use Rattle.plan_exact.specs.Vectors.{Vector, dot, cross}
 use Rattle.plan_exact.proofs.Laws.{linear}
-use Rattle.plan_exact.proofs.Signs.{nonneg_of_pos}
+use Rattle.plan_exact.proofs.Signs.{le_of_lt}
 use Rattle.plan_exact.proofs.Vectors.{cross_on_left}
 use Rattle.plan_spec.specs.Parity.{parity, xor}
 use Rattle.plan_spec.specs.Polygon.{Inside, edges}
@@ -41,11 +41,11 @@ odd_at {v} {w} {u} {x} {g} {all} {one} {two} h k d z hz o i t r within =
     let f = from_inner z r.s i in
     let n = f.least in
     let y = step n z r.s in
-    let hy = step_point z r.s n hz (nonneg_of_pos r.point) f.positive in
+    let hy = step_point z r.s n hz (le_of_lt r.point) f.positive in
     let j = f.on n (omega (arith, linear)) in
     let l : pos 0 <ℤ turn v x y = omega (arith, linear, along_zero (cross v x) z r.s n o.in_line, r.left) in
     let iz = inside_between (corners t) r.at_v r.at_x (between v x z h.corner.point_v h.point_x hz o) in
-    let iy = inside_between (corners t) iz r.at_s (step_between n z r.s (nonneg_of_pos f.positive)) in
+    let iy = inside_between (corners t) iz r.at_s (step_between n z r.s (le_of_lt f.positive)) in
     let even = beside h.corner (cross v x) (cross_on_left v x) h.steep (edges one) h.points_one h.closed_one h.right_one h.clear_one y hy (in_corner j) l in
     let off : All (λ s. ¬ (On s y)) (edges two) = λ a e below. off_of (cross v x) (cross u v) y (get_or (edges two) a e) (h.points_two a e below) hy (in_corner j) l j.before (k.clear_two a e below) in
     let misses : Misses (segment z y) (edges all) = λ a e below. clear_of (cross v w) (cross u v) z y (get_or (edges all) a e) (k.points a e below) hz hy (in_corner i) (in_corner j) i.after j.after i.before j.before (k.clear a e below) in

@@ -5,7 +5,7 @@ use Rattle.std.proofs.lemmas.List.Elements.{All-contains}
 use Rattle.plan_exact.specs.Sign.{Sign, is_negative, is_zero, is_positive}
 use Rattle.plan_exact.specs.Vectors.{Vector, cross, dot}
 use Rattle.plan_exact.proofs.Laws.{linear}
-use Rattle.plan_exact.proofs.Signs.{nonneg_of_pos, sign_of, mul_pos_neg, mul_zero, pos_of_mul, zero_of_mul}
+use Rattle.plan_exact.proofs.Signs.{le_of_lt, sign_of, mul_pos_neg, mul_zero, pos_of_mul, zero_of_mul}
 use Rattle.plan_exact.proofs.Vectors.{det_same, det_turned, cross_on_left, det_swapped}
 use Rattle.plan_spec.specs.Parity.{parity}
 use Rattle.plan_spec.specs.Polygon.{Inside, edges}
@@ -18,7 +18,7 @@ use Rattle.plan_plane.proofs.Near.{step, step_point, step_between, along_zero}
 use Rattle.plan_plane.proofs.Polygon.Holding.{inside_between}
 use Rattle.plan_plane.proofs.Polygon.Sides.{first_inside}
 use Rattle.plan_plane.proofs.Polygon.Triangle.{held}
-use Rattle.plan_plane.proofs.Segment.Between.{on, Between, between, value, between_first, between_second}
+use Rattle.plan_plane.proofs.Segment.Between.{on, Between, between, dot_between, between_first, between_second}
 use Rattle.plan_plane.proofs.Segment.OneLine.{in_line}
 use Rattle.plan_plane.proofs.Segment.Same.{on_same, Same-swapped}
 use Rattle.plan_plane.proofs.Segment.AtEnds.{second_weight, first_weight}
@@ -114,9 +114,9 @@ none_left {v} {w} {u} {x} h t y s hy hs iy is o i left =
     let f = from_inner y s i in
     let n = f.least in
     let to = step n y s in
-    let ht = step_point y s n hy (nonneg_of_pos hs) f.positive in
+    let ht = step_point y s n hy (le_of_lt hs) f.positive in
     let l : pos 0 <ℤ turn v x to = omega (arith, linear, along_zero (cross v x) y s n o.in_line) in
-    not_in_one h to ht (in_corner (f.on n (omega (arith, linear)))) l (t.within to ht (inside_between (t.c ∷ t.q ∷ t.r ∷ []) iy is (step_between n y s (nonneg_of_pos f.positive))))
+    not_in_one h to ht (in_corner (f.on n (omega (arith, linear)))) l (t.within to ht (inside_between (t.c ∷ t.q ∷ t.r ∷ []) iy is (step_between n y s (le_of_lt f.positive))))
 
 -- the way from z to the corner c crosses the diagonal at y: one of z and c is left of it
 crossed : {v w u x g z : Vector} {one two : List Vector} → Halves v w u x g one two → (t : Chosen one two z) → IsPoint z → (y : Vector) → IsPoint y → On (segment z t.c) y → Inside (t.c ∷ t.q ∷ t.r ∷ []) y
@@ -133,7 +133,7 @@ crossed {v} {w} {u} {x} {g} {z} h t hz y hy way iy not_z not_c not_v not_x o apa
     w2 = second_weight b not_z
 
     total : b.first *ℤ turn v x z +ℤ b.second *ℤ turn v x t.c ≡ pos 0
-    total = omega (arith, linear, value b (cross v x), ap (λ k. b.scale *ℤ k) o.in_line, mul_zero b.scale)
+    total = omega (arith, linear, dot_between b (cross v x), ap (λ k. b.scale *ℤ k) o.in_line, mul_zero b.scale)
 
     i : Inner v w u g y
     i = inner h y hy o not_v not_x

@@ -3,7 +3,7 @@ use Rattle.std.proofs.Common.{◌≡◌, pos, arith, ◌⊎◌, inl, inr, List, 
 use Rattle.std.proofs.lemmas.List.Elements.{All-nil, All-cons, All-tail, All-append, All-head, All-weaker, Contains-push}
 use Rattle.plan_exact.specs.Vectors.{dot, cross, opposite}
 use Rattle.plan_exact.proofs.Laws.{linear, mul_comm}
-use Rattle.plan_exact.proofs.Signs.{nonneg_of_pos}
+use Rattle.plan_exact.proofs.Signs.{le_of_lt}
 use Rattle.plan_exact.proofs.Vectors.{cross_on_left, cross_on_right, det_swapped_right, det_turned, dot_opposite}
 use Rattle.plan_spec.specs.Parity.{parity}
 use Rattle.plan_spec.specs.Polygon.{edges}
@@ -256,7 +256,7 @@ aside {v} {w} {before} {x} {after} {u} k p = from_near (far w u x) v p (corner_o
 -- ---- the vertices of the first part are out of the second
 pub first_outside : {v w : Vector} {before : List Vector} {x : Vector} {after : List Vector} {u : Vector} → AtCut v w before x after u → All (λ y. ¬ (InPolygon (part_one x (second after u) v) y)) (w ∷ before)
 first_outside {v} {w} {before} {x} {after} {u} k =
-    outside_list two (w ∷ before) (points_two k) (first_points k) (off_two k) (inner_segments (λ s. All (MeetRight s) (edges two)) v (w ∷ before) (x ∷ []) (first_meets_two k)) w v y0 (0, omega arith, refl) p.v_point hy (All-head (Differ v) w before (apart_of k).v_first) only (on_reversed v w y0 (on (step_between n v w (nonneg_of_pos size)))) not_v even0
+    outside_list two (w ∷ before) (points_two k) (first_points k) (off_two k) (inner_segments (λ s. All (MeetRight s) (edges two)) v (w ∷ before) (x ∷ []) (first_meets_two k)) w v y0 (0, omega arith, refl) p.v_point hy (All-head (Differ v) w before (apart_of k).v_first) only (on_reversed v w y0 (on (step_between n v w (le_of_lt size)))) not_v even0
   where
     two : List Vector
     two = part_one x (second after u) v
@@ -274,7 +274,7 @@ first_outside {v} {w} {before} {x} {after} {u} k =
     y0 = step (aside k w).least v w
 
     hy : IsPoint (step (aside k w).least v w)
-    hy = step_point v w (aside k w).least p.v_point (nonneg_of_pos p.w_point) size
+    hy = step_point v w (aside k w).least p.v_point (le_of_lt p.w_point) size
 
     only : OnlyAt (edges (part_one x (second after u) v)) w v
     only c hc a m =
@@ -311,7 +311,7 @@ first_outside {v} {w} {before} {x} {after} {u} k =
 -- ---- and those of the second out of the first
 pub second_outside : {v w : Vector} {before : List Vector} {x : Vector} {after : List Vector} {u : Vector} → AtCut v w before x after u → All (λ y. ¬ (InPolygon (part_one v (w ∷ before) x) y)) (second after u)
 second_outside {v} {w} {before} {x} {after} {u} k =
-    outside_list one (second after u) (points_one k) (second_points k) (off_one k) (inner_segments (λ s. All (MeetRight s) (edges one)) x (second after u) (v ∷ []) (second_meets_one k)) u v y0 (Contains-push after u) p.v_point hy differ only (on_reversed v u y0 (on (step_between n v u (nonneg_of_pos size)))) not_v even0
+    outside_list one (second after u) (points_one k) (second_points k) (off_one k) (inner_segments (λ s. All (MeetRight s) (edges one)) x (second after u) (v ∷ []) (second_meets_one k)) u v y0 (Contains-push after u) p.v_point hy differ only (on_reversed v u y0 (on (step_between n v u (le_of_lt size)))) not_v even0
   where
     one : List Vector
     one = part_one v (w ∷ before) x
@@ -329,7 +329,7 @@ second_outside {v} {w} {before} {x} {after} {u} k =
     y0 = step (aside k u).least v u
 
     hy : IsPoint (step (aside k u).least v u)
-    hy = step_point v u (aside k u).least p.v_point (nonneg_of_pos p.u_point) size
+    hy = step_point v u (aside k u).least p.v_point (le_of_lt p.u_point) size
 
     differ : Differ v u
     differ = All-head (Differ v) u [] (all_right (Differ v) after (u ∷ []) (apart_of k).v_second)

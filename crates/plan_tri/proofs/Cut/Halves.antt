@@ -3,7 +3,7 @@ use Rattle.std.proofs.Common.{ℤ, pos, ◌<ℤ◌, ◌≡◌, ◌≤ℤ◌, ari
 use Rattle.std.specs.Prelude.{◌≡◌, pos, ◌≤ℤ◌, ◌<ℤ◌, ◌⊎◌, List, All, Contains, Any}
 use Rattle.plan_exact.specs.Vectors.{dot, cross, Vector}
 use Rattle.plan_exact.proofs.Laws.{linear}
-use Rattle.plan_exact.proofs.Signs.{nonneg_of_pos}
+use Rattle.plan_exact.proofs.Signs.{le_of_lt}
 use Rattle.plan_exact.proofs.Vectors.{cross_on_left, cross_on_right}
 use Rattle.plan_spec.specs.Chain.{IsClosed}
 use Rattle.plan_spec.specs.Parity.{parity, xor}
@@ -77,4 +77,4 @@ from_inner {v} {w} {u} {g} y p i =
     record { least = f.least; positive = f.positive; on = λ n large. let k = f.on n large in record { after = k.0; before = k.1.0; within = k.1.1 } }
 
 pub in_corner : {v w u g y : Vector} → Inner v w u g y → InCorner v w u g y
-in_corner i = record { after = nonneg_of_pos i.after; before = nonneg_of_pos i.before; within = i.within }
+in_corner i = record { after = le_of_lt i.after; before = le_of_lt i.before; within = i.within }

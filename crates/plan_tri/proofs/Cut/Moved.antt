@@ -7,7 +7,7 @@ use Rattle.plan_exact.specs.Sign.{Sign, is_negative, is_zero, is_positive}
 use Rattle.plan_exact.specs.Vectors.{Vector, env, opposite, dot, cross}
 use Rattle.plan_exact.proofs.Certificates.{eq_from}
 use Rattle.plan_exact.proofs.Laws.{linear}
-use Rattle.plan_exact.proofs.Signs.{zeros, sign_of, nonneg_of_pos}
+use Rattle.plan_exact.proofs.Signs.{zeros, sign_of, le_of_lt}
 use Rattle.plan_exact.proofs.Vectors.{dot_opposite}
 use Rattle.plan_spec.specs.Chain.{IsClosed}
 use Rattle.plan_spec.specs.Parity.{parity}
@@ -18,15 +18,15 @@ use Rattle.plan_plane.proofs.Segment.Apart.{From, from_near, from_both, small_st
 use Rattle.plan_plane.proofs.Near.{step, step_point, step_between, along_zero}
 use Rattle.plan_plane.proofs.Polygon.Holding.{inside_between}
 use Rattle.plan_plane.proofs.Polygon.Sides.{second_inside, third_inside}
-use Rattle.plan_plane.proofs.Segment.Line.{right, above, right_of, above_of}
+use Rattle.plan_plane.proofs.Segment.Line.{right, above, formal_right, formal_above}
 use Rattle.plan_cross.proofs.ParityLaw.Closed.{parity_constant}
 
 -- ---- a line through a corner does not have both other corners, unless e is the corner
 both_on_line : (c q r e : Vector) → pos 0 <ℤ turn c q r → turn e c q ≡ pos 0 → turn e c r ≡ pos 0 → Same c e
 both_on_line c q r e h hq hr =
     let xs = env [] (c ∷ q ∷ r ∷ e ∷ []) in
-    let x : right c e ≡ pos 0 = eq_from xs (F.det A B C) (right_of A C ⊗ F.det D A B ⊕ neg (right_of A B) ⊗ F.det D A C) (right_of A D) F.zero tt h (search zeros) in
-    let y : above c e ≡ pos 0 = eq_from xs (F.det A B C) (above_of A C ⊗ F.det D A B ⊕ neg (above_of A B) ⊗ F.det D A C) (above_of A D) F.zero tt h (search zeros) in
+    let x : right c e ≡ pos 0 = eq_from xs (F.det A B C) (formal_right A C ⊗ F.det D A B ⊕ neg (formal_right A B) ⊗ F.det D A C) (formal_right A D) F.zero tt h (search zeros) in
+    let y : above c e ≡ pos 0 = eq_from xs (F.det A B C) (formal_above A C ⊗ F.det D A B ⊕ neg (formal_above A B) ⊗ F.det D A C) (formal_above A D) F.zero tt h (search zeros) in
     (omega (arith, linear), omega (arith, linear))
 
 -- ---- a covector that is not 0 at a point is not 0 near it
@@ -66,11 +66,11 @@ towards two points closed c q r z e k p hz hp iz ip off on_line apart not_zero =
     let n = b.least in
     let f = b.on n (omega (arith, linear)) in
     let to = step n z p in
-    let h = step_point z p n hz (nonneg_of_pos hp) b.positive in
+    let h = step_point z p n hz (le_of_lt hp) b.positive in
     record {
       to = to;
       point = h;
-      inside = inside_between (c ∷ q ∷ r ∷ []) iz ip (step_between n z p (nonneg_of_pos b.positive));
+      inside = inside_between (c ∷ q ∷ r ∷ []) iz ip (step_between n z p (le_of_lt b.positive));
       off = λ i d within. let s = f.0 i d within in off_by s.line to (get_or two i d) h (points i d within) s.at_b s.first s.second;
       same = sym (parity_constant two z to points closed hz h (λ i d within. let s = f.0 i d within in misses_by s.line z to (get_or two i d) hz h (points i d within) s.at_a s.at_b s.first s.second));
       apart = λ zero. apart (omega (arith, linear, along_zero (cross e c) z p n on_line));

@@ -7,7 +7,7 @@ use Rattle.std.specs.Prelude.{List}
 use Rattle.plan_exact.specs.Sign.{Order, is_less, is_equal, is_greater}
 use Rattle.plan_exact.specs.Vectors.{Vector, dot}
 use Rattle.plan_exact.proofs.Laws.{linear}
-use Rattle.plan_exact.proofs.Signs.{order_of, nonneg_of_pos}
+use Rattle.plan_exact.proofs.Signs.{order_of, le_of_lt}
 use Rattle.plan_exact.proofs.Vectors.{det_swapped}
 use Rattle.plan_spec.specs.Chain.{IsClosed}
 use Rattle.plan_spec.specs.Parity.{parity}
@@ -53,7 +53,7 @@ but_at_one_end chain e o y he ho hy differ only way apart k d within c =
     y_ahead m = by (order_of (pos 0) (dot (facing o e) y))
       where
         at_least : pos 0 ≤ℤ dot (facing o e) y
-        at_least = nonneg_at m (facing o e) (nonneg_of_pos (facing_to o e differ)) (nonneg (facing_from o e))
+        at_least = nonneg_at m (facing o e) (le_of_lt (facing_to o e differ)) (nonneg (facing_from o e))
 
         by : Order (pos 0) (dot (facing o e) y) → pos 0 <ℤ dot (facing o e) y
         by (is_less h) = h

@@ -7,7 +7,7 @@ use Rattle.plan_exact.specs.Formal as F
 use Rattle.plan_exact.specs.Vectors.{cross, env, dot}
 use Rattle.plan_exact.proofs.Certificates.{eq_from}
 use Rattle.plan_exact.proofs.Laws.{linear}
-use Rattle.plan_exact.proofs.Signs.{nonneg_of_pos, zeros, le_or_lt, nonneg_or_neg, mul_pos, mul_pos_neg, mul_nonneg_nonpos, mul_of_zero, zero_of_mul}
+use Rattle.plan_exact.proofs.Signs.{le_of_lt, zeros, le_or_lt, mul_pos, mul_pos_neg, mul_nonneg_nonpos, mul_of_zero, zero_of_mul}
 use Rattle.plan_exact.proofs.Vectors.{det_turned, cross_on_left, cross_on_right, det_swapped}
 use Rattle.plan_spec.specs.Parity.{parity, xor}
 use Rattle.plan_spec.specs.Polygon.{edges, Inside}
@@ -23,7 +23,7 @@ use Rattle.plan_plane.proofs.Polygon.Corner.{polygon, corner_edges}
 use Rattle.plan_plane.proofs.Polygon.Cut.{chain, whole, part_one, all_two, edges_part}
 use Rattle.plan_plane.proofs.Polygon.Edges.{ends_of_edges, edges_cut, vertices_on}
 use Rattle.plan_plane.proofs.Polygon.Sides.{on_third}
-use Rattle.plan_plane.proofs.Segment.Between.{Between, on, swapped, between, value, zero_at, nonneg_at}
+use Rattle.plan_plane.proofs.Segment.Between.{Between, on, swapped, between, dot_between, zero_at, nonneg_at}
 use Rattle.plan_plane.proofs.Segment.Part.{between_part}
 use Rattle.plan_plane.proofs.Segment.Reversed.{on_reversed}
 use Rattle.plan_plane.proofs.Segment.Same.{Same-trans, on_same, Same-swapped}
@@ -75,7 +75,7 @@ ear_shape {v} {w} {mid} {u} k = record {
   at_u = nonpos (cross_on_right w u);
   ahead = λ z hz h. h;
   points = (points_of k.at).mid_points;
-  none = λ i d within inside. k.none i d within (record { after = inside.after; ahead = nonneg_of_pos inside.within; before = inside.before });
+  none = λ i d within inside. k.none i d within (record { after = inside.after; ahead = le_of_lt inside.within; before = inside.before });
   first_meets = first_meets k.at;
   last_meets = last_meets k.at;
 }
@@ -119,12 +119,12 @@ not_ahead {v} {w} {u} {e} {o} {z} k p hp part = by (le_or_lt (turn w u p) (pos 0
         let n = f.least in
         let g = f.on n (omega (arith, linear)) in
         let c = step n z p in
-        let hc = step_point z p n k.z_point (nonneg_of_pos hp) f.positive in
-        let b = part c (swapped (step_between n z p (nonneg_of_pos f.positive))) in
-        absurd (k.clear c hc (on b) (record { after = nonneg_of_pos g.0; before = nonneg_of_pos g.1; within = omega (arith, linear, along_zero (cross w u) z p n k.level, h) }))
+        let hc = step_point z p n k.z_point (le_of_lt hp) f.positive in
+        let b = part c (swapped (step_between n z p (le_of_lt f.positive))) in
+        absurd (k.clear c hc (on b) (record { after = le_of_lt g.0; before = le_of_lt g.1; within = omega (arith, linear, along_zero (cross w u) z p n k.level, h) }))
 
 crossing : {v w u e o z : Vector} → Crossing v w u e o z → ⊥
-crossing {v} {w} {u} {e} {o} {z} k = by (nonneg_or_neg (turn v w e)) (nonneg_or_neg (turn u v e))
+crossing {v} {w} {u} {e} {o} {z} k = by (le_or_lt (pos 0) (turn v w e)) (le_or_lt (pos 0) (turn u v e))
   where
     m : Between e o z
     m = k.way
@@ -139,11 +139,11 @@ crossing {v} {w} {u} {e} {o} {z} k = by (nonneg_or_neg (turn v w e)) (nonneg_or_
     first = first_weight k.way k.not_o
 
     level_e : turn w u e ≡ pos 0
-    level_e = zero_of_mul k.way.first (turn w u e) first (omega (arith, linear, value k.way (cross w u), mul_of_zero k.way.scale (turn w u z) k.level, mul_nonneg_nonpos k.way.first_nonneg fe, mul_nonneg_nonpos k.way.second_nonneg fo))
+    level_e = zero_of_mul k.way.first (turn w u e) first (omega (arith, linear, dot_between k.way (cross w u), mul_of_zero k.way.scale (turn w u z) k.level, mul_nonneg_nonpos k.way.first_nonneg fe, mul_nonneg_nonpos k.way.second_nonneg fo))
 
     -- the point where the segment meets the line of a side, by a covector l that is 0 at the corner c there
     at : (l c : Vector) → IsPoint c → dot l c ≡ pos 0 → EndWhereOn c (segment e o) → ((y : Vector) → dot l y ≡ pos 0 → turn w u y ≡ pos 0 → Same y c) → dot l e <ℤ pos 0 → pos 0 <ℤ dot l z → ⊥
-    at l c hc zero ends same le lz = go (through l l e z k.e_point k.z_point (nonneg_of_pos lz) le (nonneg entry_zero))
+    at l c hc zero ends same le lz = go (through l l e z k.e_point k.z_point (le_of_lt lz) le (nonneg entry_zero))
       where
         entry_zero : dot l (entry_at l e z) ≡ pos 0
         entry_zero = at_own l e z
@@ -152,7 +152,7 @@ crossing {v} {w} {u} {e} {o} {z} k = by (nonneg_or_neg (turn v w e)) (nonneg_or_
         finish (inl s) = omega (arith, linear, le, zero_same l c e hc s zero)
         finish (inr s) =
             let lo = zero_same l c o hc s zero in
-            omega (arith, linear, value k.way l, mul_pos k.way.scale_positive lz, mul_pos_neg first le, mul_of_zero k.way.second (dot l o) lo)
+            omega (arith, linear, dot_between k.way l, mul_pos k.way.scale_positive lz, mul_pos_neg first le, mul_of_zero k.way.second (dot l o) lo)
 
         zero_side : (y : Vector) → ((dot l y ≡ pos 0) × (pos 0 ≤ℤ dot l y)) ⊎ ((dot l y ≡ pos 0) × (pos 0 ≤ℤ dot l y)) → dot l y ≡ pos 0
         zero_side y (inl h) = h.0
@@ -204,7 +204,7 @@ ear_meets_segment {v} {w} {mid} {u} k e o he out vo w_ends u_ends clear z hz a b
     p = points_of k.at
 
     inside : OnDiagonal v w u z → InTriangle v w u z
-    inside d = record { after = nonneg_of_pos d.after; ahead = nonneg d.level; before = nonneg_of_pos d.before }
+    inside d = record { after = le_of_lt d.after; ahead = nonneg d.level; before = le_of_lt d.before }
 
     by : Same z u ⊎ ¬ (Same z u) → Same z w ⊎ ¬ (Same z w) → IsEnd (segment u w) z × IsEnd (segment e o) z
     by (inl s) t = (inl s, end_moved (segment e o) z u (points_of k.at).u_point s (u_ends (on_same e o z u he vo.0 hz (points_of k.at).u_point s b)))
@@ -377,10 +377,10 @@ ear_diagonal {v} {w} {mid} {u} k z hz o = by (any_on (edges (from_u v w mid u)) 
         let n = f.least in
         let g = f.on n (omega (arith, linear)) in
         let y = step n z v in
-        let hy = step_point z v n hz (nonneg_of_pos p.v_point) f.positive in
+        let hy = step_point z v n hz (le_of_lt p.v_point) f.positive in
         let fy : pos 0 <ℤ turn w u y = omega (arith, linear, along_zero (cross w u) z v n d.level, ahead_v k) in
-        let iy : InCorner v w u (cross w u) y = record { after = nonneg_of_pos g.0; before = nonneg_of_pos g.1; within = fy } in
-        let two = rest_even k y hy (nonneg_of_pos g.0) (nonneg_of_pos g.1) fy in
+        let iy : InCorner v w u (cross w u) y = record { after = le_of_lt g.0; before = le_of_lt g.1; within = fy } in
+        let two = rest_even k y hy (le_of_lt g.0) (le_of_lt g.1) fy in
         let one = odd_inside u v w y hy k.at.turns_left g.0 fy g.1 in
         let P = λ (s : Segment). ¬ (Common (segment z y) s) in
         let Off = λ (s : Segment). ¬ (On s z) in
@@ -402,8 +402,8 @@ ear_diagonal {v} {w} {mid} {u} k z hz o = by (any_on (edges (from_u v w mid u)) 
             by : Same c.0 z ⊎ ¬ (Same c.0 z) → ⊥
             by (inl e) = off (on_same s.a s.b c.0 z hs.0 hs.1 c.1 hz e c.3)
             by (inr n) = clear c.0 c.1 c.3 (record {
-              after = nonneg_at m (cross v w) (nonneg_of_pos d.after) iy.after;
-              before = nonneg_at m (cross u v) (nonneg_of_pos d.before) iy.before;
+              after = nonneg_at m (cross v w) (le_of_lt d.after) iy.after;
+              before = nonneg_at m (cross u v) (le_of_lt d.before) iy.before;
               within = pos_by_second m (cross w u) (second_weight m n) (nonneg d.level) iy.within;
             })
 

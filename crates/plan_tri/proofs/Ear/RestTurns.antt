@@ -6,7 +6,7 @@ use Rattle.std.proofs.lemmas.List.Elements.{All-head, All-contains}
 use Rattle.plan_exact.specs.Sign.{Sign, is_negative, is_zero, is_positive}
 use Rattle.plan_exact.specs.Vectors.{Vector, cross}
 use Rattle.plan_exact.proofs.Laws.{linear, one_mul}
-use Rattle.plan_exact.proofs.Signs.{nonneg_of_pos, sign_of}
+use Rattle.plan_exact.proofs.Signs.{le_of_lt, sign_of}
 use Rattle.plan_exact.proofs.Vectors.{cross_on_left, cross_on_right, det_turned}
 use Rattle.plan_spec.specs.Polygon.{Inside, edges}
 use Rattle.plan_spec.specs.Segment.{On, Segment, segment}
@@ -41,7 +41,7 @@ none {v} {w} {b} {bs} {u} k t r within = by (within z hz iz)
     base = step (pos 1) w u
 
     h_base : IsPoint (step (pos 1) w u)
-    h_base = let p = points_of k.at in step_point w u (pos 1) p.w_point (nonneg_of_pos p.u_point) (omega (arith, linear))
+    h_base = let p = points_of k.at in step_point w u (pos 1) p.w_point (le_of_lt p.u_point) (omega (arith, linear))
 
     after : pos 0 <ℤ turn v w (step (pos 1) w u)
     after = omega (arith, linear, along_zero (cross v w) w u (pos 1) (cross_on_right v w), k.at.turns_left, det_turned u v w)
@@ -59,12 +59,12 @@ none {v} {w} {b} {bs} {u} k t r within = by (within z hz iz)
     z = step f.least (step (pos 1) w u) r.s
 
     hz : IsPoint (step f.least (step (pos 1) w u) r.s)
-    hz = step_point (step (pos 1) w u) r.s f.least h_base (nonneg_of_pos r.point) f.positive
+    hz = step_point (step (pos 1) w u) r.s f.least h_base (le_of_lt r.point) f.positive
 
     iz : Inside (corners t) (step f.least (step (pos 1) w u) r.s)
     iz =
         let i = inside_between (corners t) r.at_v r.at_x (step_between (pos 1) w u (omega (arith, linear))) in
-        inside_between (corners t) i r.at_s (step_between f.least (step (pos 1) w u) r.s (nonneg_of_pos f.positive))
+        inside_between (corners t) i r.at_s (step_between f.least (step (pos 1) w u) r.s (le_of_lt f.positive))
 
     ahead : pos 0 <ℤ turn w u (step f.least (step (pos 1) w u) r.s)
     ahead = omega (arith, linear, along_zero (cross w u) (step (pos 1) w u) r.s f.least level, r.left)
@@ -73,8 +73,8 @@ none {v} {w} {b} {bs} {u} k t r within = by (within z hz iz)
     sides = f.on f.least (omega (arith, linear))
 
     by : InPolygon (part_one w (b ∷ bs) u) (step f.least (step (pos 1) w u) r.s) → ⊥
-    by (inl m) = no_one (λ s. On s (step f.least (step (pos 1) w u) r.s)) (edges (part_one w (b ∷ bs) u)) (rest_off k (step f.least (step (pos 1) w u) r.s) hz (nonneg_of_pos sides.0) (nonneg_of_pos sides.1) ahead) m
-    by (inr odd) = true≢false (sym odd ∙ rest_even k (step f.least (step (pos 1) w u) r.s) hz (nonneg_of_pos sides.0) (nonneg_of_pos sides.1) ahead)
+    by (inl m) = no_one (λ s. On s (step f.least (step (pos 1) w u) r.s)) (edges (part_one w (b ∷ bs) u)) (rest_off k (step f.least (step (pos 1) w u) r.s) hz (le_of_lt sides.0) (le_of_lt sides.1) ahead) m
+    by (inr odd) = true≢false (sym odd ∙ rest_even k (step f.least (step (pos 1) w u) r.s) hz (le_of_lt sides.0) (le_of_lt sides.1) ahead)
 
 -- ---- so it turns left
 clockwise : {v w : Vector} {b : Vector} {bs : List Vector} {u : Vector} → AtEar v w (b ∷ bs) u → (r : Ready (part_one w (b ∷ bs) u)) → (ts : List Triangle) → AtCorner r.v r.u (back r.mid) r.w → Triangulated (polygon r.v r.u (back r.mid) r.w) ts → ⊥

@@ -1,3 +1,4 @@
+-- The ends are paired once sorted exactly where the chain is closed.
 use Rattle.plan_cross.specs.End.{end_vector}
 use Rattle.plan_cross.proofs.EndOrder.{end_cmp_total, end_apart, end_cmp_exact}
 use Rattle.plan_cross.proofs.Pairs.{closed_is_paired}

@@ -1,3 +1,4 @@
+-- The parity so far, with that of the segments that are left, is that of all.
 use Rattle.std.proofs.Common.{◌≡◌, map, drop}
 use Rattle.plan_spec.specs.Parity.{parity, xor}
 use Rattle.plan_grid.specs.Spot.{spot_seen}

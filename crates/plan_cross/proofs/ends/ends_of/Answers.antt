@@ -1,3 +1,4 @@
+-- Each segment adds its two ends.
 use Rattle.std.proofs.Common.{◌∙◌}
 use Rattle.plan_cross.proofs.Found.{two_more, all_two_more}
 use Rattle.plan_cross.proofs.ends.ends_of.Goals as goal

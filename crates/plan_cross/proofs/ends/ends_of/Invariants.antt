@@ -1,3 +1,4 @@
+-- The ends found so far, followed by those of the segments that are left, are all.
 use Rattle.std.proofs.Common.{◌≡◌, ◌++◌, All, map, drop}
 use Rattle.plan_grid.specs.Bounds.{IsInRange}
 use Rattle.plan_cross.specs.Segment.{segment_seen}

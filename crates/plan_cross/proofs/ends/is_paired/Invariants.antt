@@ -1,3 +1,4 @@
+-- The whole list is paired exactly where what is left of it is.
 use Rattle.std.proofs.Common.{map, length, ◌↔◌}
 use Rattle.plan_cross.specs.End.{end_vector}
 use Rattle.plan_cross.specs.Ends.{IsPaired}

@@ -1,3 +1,4 @@
+-- A route between two parities crosses the chain.
 use Rattle.plan_cross.proofs.ParityLaw.Route.{route_crosses}
 use Rattle.plan_cross.proofs.laws.route.Goals as goal
 

@@ -1,7 +1,7 @@
 -- Each turn that was computed is that of one edge, so either z is right of one of them, or on or left of all.
 use Rattle.std.proofs.Common.{◌≡◌, ◌⊎◌, inl, inr, ℤ, pos, ◌≤ℤ◌, ◌<ℤ◌, ◌∙◌, refl, sym, subst, arith, below_more}
 use Rattle.plan_exact.proofs.Laws.{linear}
-use Rattle.plan_exact.proofs.Signs.{nonneg_or_neg}
+use Rattle.plan_exact.proofs.Signs.{le_or_lt}
 use Rattle.plan_spec.specs.Polygon.{Inside, OnOrLeft}
 use Rattle.plan_grid.specs.Spot.{spots_seen}
 use Rattle.plan_convex.proofs.Edges.{edge_at, inside_by_number, left_of_edge}
@@ -25,7 +25,7 @@ loop-i-preserved c =
     (not_negative _ (λ h. let e = c.if-is_right.ensures.1 h in cc))
   where
     not_negative : (a : ℤ) → ¬ (a <ℤ pos 0) → pos 0 ≤ℤ a
-    not_negative a h = by (nonneg_or_neg a)
+    not_negative a h = by (le_or_lt (pos 0) a)
       where
         by : (pos 0 ≤ℤ a) ⊎ (a <ℤ pos 0) → pos 0 ≤ℤ a
         by (inl k) = k
