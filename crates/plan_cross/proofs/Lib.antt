@@ -1,4 +1,3 @@
 mod Pairs
-mod EndOrder
 mod Found
 pub mod ParityLaw

@@ -1,4 +1,3 @@
-pub mod End
 pub mod Ends
 pub mod Laws
 pub mod Segment

@@ -43,7 +43,7 @@ fn is_right(p: &Point, z: Spot) -> bool
     requires { unsigned_abs z.x ≤ MOST_COORDINATE }
     ensures { IsTrue result ↔ LtX (spot_seen z) p.now }
 {
-    weighted(z.x, p).is_below(Whole::from(p.x()))
+    weighted(z.x, p) < Whole::from(p.x())
 }
 
 // Whether the line from `a` to its right end `b` is above `z`.
