@@ -19,3 +19,5 @@ pub mod Distances
 pub mod Covered
 pub mod Terms
 pub mod Spans
+pub mod EdgeNumbers
+pub mod Apart

@@ -1,7 +1,8 @@
-ghost use Rattle.std.specs.Prelude.{◌≡◌, pos, ◌<◌, ◌≤◌, ◌^◌, ◌↔◌, IfSome, IsNone};
+ghost use Rattle.std.specs.Prelude.{◌≡◌, pos, ◌<◌, ◌≤◌, ◌^◌, ◌↔◌, IfSome, IsNone, IsTrue};
 ghost use Rattle.plan_spec.specs.Vector.{turn};
+ghost use Rattle.plan_spec.specs.Boundary.{IsLeft, StrictlyInside};
 ghost use Rattle.plan_grid.specs.Fraction.{SameValue};
-ghost use Rattle.plan_grid.specs.Spot.{spot_seen, spots_seen, IsWithin};
+ghost use Rattle.plan_grid.specs.Spot.{spot_seen, spots_seen, edge_seen, IsWithin};
 ghost use Rattle.plan_convex.specs.Parameter.{Less, IsParameter};
 ghost use Rattle.plan_convex.specs.Span.{start, finish, IsSpanOf, IsOutside, AreLowest, IsProper, IsCovered};
 
@@ -9,7 +10,7 @@ use crate::convex::Convex;
 use crate::parameter::Parameter;
 use crate::part::Part;
 use plan_exact::Whole;
-use plan_grid::{Ratio, Spot, side};
+use plan_grid::{Ratio, Spot, orientation, side};
 
 /// The open part between `n0 / d0` and `n1 / d1` along an edge that runs from 0 to 1, both fractions in lowest terms.
 #[derive(Clone, Copy, Debug, PartialEq, Eq)]
@@ -54,6 +55,19 @@ impl Convex {
         Some(Span::of(part))
     }
 
+    /// Whether the spot is in the open interior: strictly left of every edge.
+    pub fn covers(&self, z: Spot) -> bool
+        ensures { IsTrue result ↔ StrictlyInside (spots_seen self.now) (spot_seen z) }
+    {
+        let spots = self.spots();
+        for i in 0..spots.len() {
+            if !is_left(spots[i], spots[(i + 1) % spots.len()], z) {
+                return false;
+            }
+        }
+        true
+    }
+
     // The part of the edge from `a` to `b` that the open interior covers, by its ends; None where it covers no point
     // other than the edge's own ends.
     fn covered(&self, a: Spot, b: Spot) -> Option<Part>
@@ -70,6 +84,13 @@ impl Convex {
         }
         Some(part)
     }
+}
+
+// Whether `z` is strictly left of the line from `a` to `b`.
+fn is_left(a: Spot, b: Spot, z: Spot) -> bool
+    ensures { IsTrue result ↔ IsLeft (spot_seen z) (edge_seen a b) }
+{
+    orientation(a, b, z).is_gt()
 }
 
 // The numerator and the denominator in lowest terms.

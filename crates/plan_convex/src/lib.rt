@@ -1,18 +1,26 @@
 //! Convex polygons with few vertices, and the Minkowski sum of two triangles.
 #![tactic(auto)]
 
+mod boxes;
 mod clip;
+#[cfg(test)]
+mod clip_tests;
 mod convex;
 mod minkowski;
+mod numbering;
 mod parameter;
 mod part;
+mod piece;
 #[cfg(test)]
 mod tests;
 mod vertices;
 mod walk;
 
+pub use boxes::{are_apart, bounds, edge_bounds};
 pub use clip::Span;
 pub use convex::Convex;
 pub use minkowski::sum;
+pub use numbering::{edge_count, edge_of};
 pub use parameter::Parameter;
 pub use part::Part;
+pub use piece::{Piece, Pieces};

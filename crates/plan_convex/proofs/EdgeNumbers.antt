@@ -1,0 +1,42 @@
+-- The edges of the sums that are left, and the room's sides: one sum less, and its edges come first.
+use Rattle.std.proofs.Common.{◌≡◌, ℕ, ◌+◌, ◌-◌, ◌<◌, ◌≤◌, ◌∙◌, ap, List, ◌∷◌, ◌++◌, length, get_or, drop, append_assoc, arith}
+use Rattle.std.specs.List.{flat_map}
+use Rattle.std.proofs.lemmas.List.{length-append, get_or_append_left, get_or-append_right, at_drop_more, drop_all}
+use Rattle.plan_spec.specs.Segment.{Segment}
+use Rattle.plan_spec.specs.Polygon.{edges}
+use Rattle.plan_spec.specs.Frame.{Frame}
+use Rattle.plan_spec.specs.Boundary.{boundary, sides}
+use Rattle.plan_grid.specs.declared.spot.Spot.{Spot}
+use Rattle.plan_grid.specs.Spot.{spots_seen}
+use Rattle.plan_convex.specs.Piece.{sums_seen}
+use Rattle.plan_convex.proofs.Edges.{edge_at, get_or-edges, length-edges}
+
+-- the edges of the sums from number i on, and the sides
+abbrev pub left_from : List (List Spot) → ℕ → Frame → List Segment
+left_from sums i room = boundary (sums_seen (drop i sums)) room
+
+first_sum : (v : List Spot) (rest : List (List Spot)) (room : Frame) → boundary (sums_seen (v ∷ rest)) room ≡ edges (spots_seen v) ++ boundary (sums_seen rest) room
+first_sum v rest room = append_assoc (edges (spots_seen v)) (flat_map edges (sums_seen rest)) (sides room)
+
+pub left_more : (sums : List (List Spot)) (i : ℕ) (room : Frame) (d : List Spot) → i < length sums → left_from sums i room ≡ edges (spots_seen (get_or sums i d)) ++ left_from sums (i + 1) room
+left_more sums i room d within = at_drop_more (λ l. boundary (sums_seen l) room) sums i d within ∙ first_sum (get_or sums i d) (drop (i + 1) sums) room
+
+pub left_none : (sums : List (List Spot)) (i : ℕ) (room : Frame) → length sums ≤ i → left_from sums i room ≡ sides room
+left_none sums i room past = ap (λ l. boundary (sums_seen l) room) (drop_all i sums past)
+
+pub length_more : (sums : List (List Spot)) (i : ℕ) (room : Frame) (d : List Spot) → i < length sums → length (left_from sums i room) ≡ length (get_or sums i d) + length (left_from sums (i + 1) room)
+length_more sums i room d within =
+    ap length (left_more sums i room d within) ∙ length-append (edges (spots_seen (get_or sums i d))) (left_from sums (i + 1) room)
+    ∙ ap (λ n. n + length (left_from sums (i + 1) room)) (length-edges (get_or sums i d))
+
+-- an edge of the next sum, and one beyond it
+pub edge_here : (sums : List (List Spot)) (i k : ℕ) (room : Frame) (d : List Spot) (e : Segment) → i < length sums → k < length (get_or sums i d) → get_or (left_from sums i room) k e ≡ edge_at (get_or sums i d) k
+edge_here sums i k room d e within fits =
+    ap (λ l. get_or l k e) (left_more sums i room d within)
+    ∙ get_or_append_left (edges (spots_seen (get_or sums i d))) (left_from sums (i + 1) room) e k (omega (arith, length-edges (get_or sums i d)))
+    ∙ get_or-edges (get_or sums i d) k e fits
+
+pub edge_beyond : (sums : List (List Spot)) (i k : ℕ) (room : Frame) (d : List Spot) (e : Segment) → i < length sums → length (get_or sums i d) ≤ k → get_or (left_from sums i room) k e ≡ get_or (left_from sums (i + 1) room) (k - length (get_or sums i d)) e
+edge_beyond sums i k room d e within beyond =
+    ap (λ l. get_or l k e) (left_more sums i room d within)
+    ∙ get_or-append_right (edges (spots_seen (get_or sums i d))) (left_from sums (i + 1) room) (length (get_or sums i d)) k e (length-edges (get_or sums i d)) beyond
