@@ -3,3 +3,4 @@ mod CommandCases
 pub mod Outcomes
 mod Scenes
 mod Checks
+mod Exclusion

@@ -1,6 +1,6 @@
 -- Scenes: the room, the sums, and their boxes.
 pub mod Leaving
-pub mod Box
+pub mod Rooms
 pub mod Sums
 pub mod Bounds
 pub mod Apart

@@ -3,6 +3,7 @@ pub mod Status
 pub mod Command
 pub mod Lines
 pub mod Outcome
-pub mod Sum
+pub mod Box
 pub mod Scene
 pub mod Check
+pub mod Laws

@@ -2,14 +2,12 @@ ghost use Rattle.std.specs.Prelude.{◌<◌, ◌^◌, ◌↔◌, length, All, Is
 ghost use Rattle.plan_spec.specs.Placement as placement;
 ghost use Rattle.plan_spec.specs.Route.{IsClearPolyline, legs};
 ghost use Rattle.plan_spec.specs.Reply.{IsFirstFault};
-ghost use Rattle.plan_grid.specs.Spot.{spot_seen, edge_seen, IsWithin};
-ghost use Rattle.plan_grid.specs.Spot.{spots_seen};
+ghost use Rattle.plan_grid.specs.Spot.{spot_seen, spots_seen, edge_seen, IsWithin};
 ghost use Rattle.plan_top.specs.Fault.{fault_seen};
 ghost use Rattle.plan_top.specs.Scene.{IsSceneOf};
 ghost use Rattle.plan_top.specs.Check.{LegTouches, IsFirstLeg};
 
 use crate::fault::CheckFault;
-use crate::room::is_on_or_beyond;
 use crate::scene::Scene;
 use plan_grid::Spot;
 
@@ -60,10 +58,10 @@ fn touches(scene: &Scene, a: Spot, b: Spot) -> bool
     requires b_bounded { IsWithin 2046 b }
     ensures { IsTrue result ↔ LegTouches scene.now (edge_seen a b) }
 {
-    if is_on_or_beyond(scene.room, a) {
+    if scene.room.is_on_or_beyond(a) {
         return true;
     }
-    if is_on_or_beyond(scene.room, b) {
+    if scene.room.is_on_or_beyond(b) {
         return true;
     }
     for sum in scene.sums.as_slice() {

@@ -2,12 +2,13 @@
 #![tactic(auto)]
 
 mod answer;
+mod bounding_box;
 mod check;
 mod command;
 mod fault;
+pub mod laws;
 mod lines;
 mod no_memory;
-mod room;
 mod scene;
 mod status;
 mod sum;

@@ -2,12 +2,12 @@ ghost use Rattle.std.specs.Prelude.{map, All, IfOk};
 ghost use Rattle.std.specs.List.{AllZip};
 ghost use Rattle.plan_grid.specs.Frame.{frame_seen};
 ghost use Rattle.plan_grid.specs.Spot.{spots_seen};
+ghost use Rattle.plan_grid.specs.Triangle.{IsTriangle};
 ghost use Rattle.plan_wire.specs.First.{obstacle_seen};
 ghost use Rattle.plan_wire.specs.Fits.{IsFrame};
-ghost use Rattle.plan_grid.specs.Triangle.{IsTriangle};
-ghost use Rattle.plan_top.specs.Scene.{IsSumOf, IsSceneOf};
+ghost use Rattle.plan_top.specs.Scene.{IsRoom, IsSumOf, IsSceneOf};
 
-use crate::room::room;
+use crate::bounding_box::bounding_box;
 use crate::sum::Sum;
 use plan_convex::sum;
 use plan_grid::{Frame, Spot, counterclockwise};
@@ -42,6 +42,20 @@ impl Scene {
         let sums = sums(alloc, robot, obstacles)?;
         let room = room(frame, robot);
         Ok(Scene { room, sums })
+    }
+}
+
+// The frame moved by the robot's bounding box: the robot is strictly inside the frame exactly where its placement is
+// strictly inside the room.
+fn room(frame: Frame, robot: [Spot; 3]) -> Frame
+    requires frame { IsFrame frame }
+    requires robot { IsTriangle robot }
+    ensures { IsRoom (spots_seen robot) (frame_seen frame) (frame_seen result) }
+{
+    let bounds = bounding_box(&robot);
+    Frame {
+        low: frame.low.minus(bounds.low),
+        high: frame.high.minus(bounds.high),
     }
 }
 

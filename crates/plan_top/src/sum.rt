@@ -1,15 +1,15 @@
-ghost use Rattle.std.specs.Prelude.{◌≡◌, ◌<◌, ◌↔◌, length, All, IsTrue};
-ghost use Rattle.plan_grid.specs.Spot.{edge_seen, IsWithin};
+ghost use Rattle.std.specs.Prelude.{◌≡◌, ◌↔◌, IsTrue};
+ghost use Rattle.plan_grid.specs.Spot.{spots_seen, edge_seen, IsWithin};
 ghost use Rattle.plan_spec.specs.Polygon.{Inside};
-ghost use Rattle.plan_grid.specs.Spot.{spots_seen};
-ghost use Rattle.plan_top.specs.Sum.{Along, AreApart, Encloses, IsLeftOrBelow};
+ghost use Rattle.plan_top.specs.Box.{AreApart, Encloses, IsLeftOrBelow};
+ghost use Rattle.plan_spec.specs.Segment.{AnyOn};
 
-use crate::room::{highest, lowest};
+use crate::bounding_box::bounding_box;
 use plan_convex::Convex;
 use plan_grid::{Frame, Point, Spot};
 use std::marker::Model;
 
-/// The sum of an obstacle with the reflected robot, and the box that holds it.
+/// The sum of an obstacle with the reflected robot, and its bounding box.
 #[derive(Drop)]
 pub struct Sum {
     polygon: Convex,
@@ -17,15 +17,15 @@ pub struct Sum {
 }
 
 impl Model for Sum {
-    ghost use Rattle.std.specs.Prelude.{List, All};
+    ghost use Rattle.std.specs.Prelude.{List};
     ghost use Rattle.plan_grid.specs.declared.spot.Spot.{Spot};
-    ghost use Rattle.plan_top.specs.Sum.{Encloses};
+    ghost use Rattle.plan_top.specs.Box.{IsBox};
 
     ghost Value = { List Spot };
 
     ghost view = { λ s. s.polygon };
 
-    ghost invariant = { λ s. All (Encloses s.bounds) s.polygon };
+    ghost invariant = { λ s. IsBox s.polygon s.bounds };
 }
 
 impl Sum {
@@ -33,7 +33,7 @@ impl Sum {
     pub fn of(polygon: Convex) -> Sum
         ensures { result ≡ polygon }
     {
-        let bounds = bounds(polygon.spots());
+        let bounds = bounding_box(polygon.spots());
         Sum { polygon, bounds }
     }
 
@@ -43,7 +43,7 @@ impl Sum {
     pub fn meets(&self, a: Spot, b: Spot) -> bool
         requires a_bounded { IsWithin 2046 a }
         requires b_bounded { IsWithin 2046 b }
-        ensures { IsTrue result ↔ Along (edge_seen a b) (Inside (spots_seen self.now)) }
+        ensures { IsTrue result ↔ AnyOn (Inside (spots_seen self.now)) (edge_seen a b) }
     {
         prove!(self.polygon.spots().len() >= 3);
         if are_apart(span(a, b), self.bounds) {
@@ -53,28 +53,14 @@ impl Sum {
     }
 }
 
-// The box of the spots, of which there is one at least.
-fn bounds(spots: &[Spot]) -> Frame
-    requires { 0 < length spots.now }
-    ensures { All (Encloses result) spots.now }
-{
-    let mut low = spots[0];
-    let mut high = spots[0];
-    for spot in spots {
-        low = lowest(low, *spot);
-        high = highest(high, *spot);
-    }
-    Frame { low, high }
-}
-
 // The box of the segment from `a` to `b`.
 fn span(a: Spot, b: Spot) -> Frame
     ensures first { Encloses result a }
     ensures second { Encloses result b }
 {
     Frame {
-        low: lowest(a, b),
-        high: highest(a, b),
+        low: a.least(b),
+        high: a.greatest(b),
     }
 }
 

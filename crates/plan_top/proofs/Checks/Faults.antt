@@ -7,7 +7,7 @@ use Rattle.std.proofs.lemmas.List.{length-map}
 use Rattle.std.proofs.lemmas.Int.{ints}
 use Rattle.plan_exact.proofs.Signs.{mul_one}
 use Rattle.plan_spec.specs.Vector.{Vector, IsPoint, Same}
-use Rattle.plan_spec.specs.Segment.{Segment, HasPoints}
+use Rattle.plan_spec.specs.Segment.{Segment, HasPoints, AnyOn}
 use Rattle.plan_spec.specs.Polygon.{Inside}
 use Rattle.plan_spec.specs.Placement.{Leaves, Meets, Scene as Placed}
 use Rattle.plan_spec.specs.Frame.{OnOrBeyond}
@@ -15,22 +15,20 @@ use Rattle.plan_spec.specs.Route.{IsClearPolyline, StartsAt, EndsAt, legs}
 use Rattle.plan_spec.specs.Reply.{SegmentTouches, FirstTouching}
 use Rattle.plan_top.proofs.Scenes.Leaving.{segment_beyond}
 use Rattle.plan_top.proofs.Checks.ClearPaths.{clear_polyline}
-use Rattle.plan_top.proofs.Checks.Touching.{touches_where, along_alike}
+use Rattle.plan_top.proofs.Checks.Touching.{touches_where, any_on_alike}
+use Rattle.plan_plane.proofs.Lists.{any_none, any_here, any_there, any_cases}
 use Rattle.plan_grid.specs.declared.spot.Spot.{Spot}
 use Rattle.plan_grid.specs.Frame.{frame_seen}
-use Rattle.plan_grid.specs.Spot.{spot_seen}
-use Rattle.plan_grid.specs.Spot.{spots_seen}
-use Rattle.plan_top.specs.Sum.{Along}
+use Rattle.plan_grid.specs.Spot.{spot_seen, spots_seen}
 use Rattle.plan_top.specs.Scene.{IsSumOf, IsSceneOf}
 use Rattle.plan_top.specs.Check.{LegTouches, IsFirstLeg}
 use Rattle.plan_top.specs.declared.scene.Scene.{Scene}
-use Rattle.plan_top.proofs.Scenes.Box.{spot_is}
-use Rattle.plan_grid.proofs.Spots.{corner}
+use Rattle.plan_grid.proofs.Spots.{corner, spot_path}
 use Rattle.plan_top.proofs.Checks.Legs.{all_legs}
 
 -- ---- the ends
 same_spots : (p q : Spot) → Same (spot_seen p) (spot_seen q) → p ≡ q
-same_spots p q (ex, ey) = spot_is (sym (mul_one p.x) ∙ ex ∙ mul_one q.x) (sym (mul_one p.y) ∙ ey ∙ mul_one q.y)
+same_spots p q (ex, ey) = spot_path (sym (mul_one p.x) ∙ ex ∙ mul_one q.x) (sym (mul_one p.y) ∙ ey ∙ mul_one q.y)
 
 same_if : (p q : Spot) → p ≡ q → Same (spot_seen p) (spot_seen q)
 same_if p q e = (ap (λ s. s.x *ℤ pos 1) e, ap (λ s. s.y *ℤ pos 1) e)
@@ -48,7 +46,7 @@ ends_at g (p ∷ (q ∷ ps)) some =
 
 -- what the code's comparison of two spots tells
 spots_decide : (p q : Spot) → Decides (int_eq p.x q.x && int_eq p.y q.y) (p ≡ q)
-spots_decide p q = Decides-like (int_eq p.x q.x && int_eq p.y q.y) (λ (ex, ey). spot_is ex ey) (λ e. (ap (λ s. s.x) e, ap (λ s. s.y) e)) (Decides-and (int_eq p.x q.x) (int_eq p.y q.y) (Decides-int_eq p.x q.x) (Decides-int_eq p.y q.y))
+spots_decide p q = Decides-like (int_eq p.x q.x && int_eq p.y q.y) (λ (ex, ey). spot_path ex ey) (λ e. (ap (λ s. s.x) e, ap (λ s. s.y) e)) (Decides-and (int_eq p.x q.x) (int_eq p.y q.y) (Decides-int_eq p.x q.x) (Decides-int_eq p.y q.y))
 
 pub are_same : (p q : Spot) → false ≡ not (int_eq p.x q.x && int_eq p.y q.y) → p ≡ q
 are_same p q e = (spots_decide p q).0 (by (int_eq p.x q.x && int_eq p.y q.y) e)
@@ -71,35 +69,33 @@ pub not_empty : (path : List Spot) → 0 < length path → ¬ (spots_seen path �
 not_empty path some e = omega (arith, ap length e, length-map path spot_seen)
 
 -- ---- one segment
-any_first : {A B : Type 0} (P : A → Type 0) (Q : B → Type 0) (x : A) (xs : List A) (y : B) (ys : List B) → (P x → Q y) → (Any P xs → Any Q ys) → Any P (x ∷ xs) → Any Q (y ∷ ys)
-any_first P Q x xs y ys first rest (zero, a, within, e, p) = (0, y, omega arith, refl, first (subst P (sym e) p))
-any_first P Q x xs y ys first rest (suc k, a, within, e, p) = let r = rest (k, a, omega arith, e, p) in (suc r.0, r.1, omega (arith, r.2), r.3, r.4)
-
 any_zipped : {A B : Type 0} (R : A → B → Type 0) (P : A → Type 0) (Q : B → Type 0) → ((a : A) (b : B) → R a b → P a ↔ Q b) → (xs : List A) (ys : List B) → AllZip R xs ys → Any P xs ↔ Any Q ys
-any_zipped R P Q alike [] [] h = (λ (k, b, within, e, p). absurd (omega arith), λ (k, c, within, e, q). absurd (omega arith))
+any_zipped R P Q alike [] [] h = (λ a. absurd (any_none P a), λ a. absurd (any_none Q a))
 any_zipped R P Q alike [] (y ∷ ys) h = absurd h
 any_zipped R P Q alike (x ∷ xs) [] h = absurd h
 any_zipped R P Q alike (x ∷ xs) (y ∷ ys) h =
     let first = alike x y h.0 in
-    let rest = any_zipped R P Q alike xs ys h.1 in
-    (any_first P Q x xs y ys first.0 rest.0, any_first Q P y ys x xs first.1 rest.1)
+    let rest = any_zipped R P Q alike xs ys h.1 in (
+      λ a. ⊎_elim (λ p. any_here Q y ys (first.0 p)) (λ k. any_there Q y ys (rest.0 k)) (any_cases P x xs a),
+      λ a. ⊎_elim (λ q. any_here P x xs (first.1 q)) (λ k. any_there P x xs (rest.1 k)) (any_cases Q y ys a),
+    )
 
 module _ (d : Placed) (scene : Scene) (is_scene : IsSceneOf d scene) where
   leg_touches : (s : Segment) → HasPoints s → LegTouches scene s ↔ SegmentTouches d s
   leg_touches s (ha, hb) = (into, out)
     where
-      where_touches : SegmentTouches d s ↔ (Along s (Leaves d.robot d.frame) ⊎ Any (λ o. Along s (Meets d.robot o.shape)) d.obstacles)
+      where_touches : SegmentTouches d s ↔ (AnyOn (Leaves d.robot d.frame) s ⊎ Any (λ o. AnyOn (Meets d.robot o.shape) s) d.obstacles)
       where_touches = touches_where d s
 
-      at_ends : Along s (OnOrBeyond (frame_seen scene.room)) ↔ (OnOrBeyond (frame_seen scene.room) s.a ⊎ OnOrBeyond (frame_seen scene.room) s.b)
+      at_ends : AnyOn (OnOrBeyond (frame_seen scene.room)) s ↔ (OnOrBeyond (frame_seen scene.room) s.a ⊎ OnOrBeyond (frame_seen scene.room) s.b)
       at_ends = segment_beyond (frame_seen scene.room) s.a s.b ha hb
 
-      leaves : Along s (Leaves d.robot d.frame) ↔ Along s (OnOrBeyond (frame_seen scene.room))
-      leaves = along_alike s (Leaves d.robot d.frame) (OnOrBeyond (frame_seen scene.room)) is_scene.room
+      leaves : AnyOn (Leaves d.robot d.frame) s ↔ AnyOn (OnOrBeyond (frame_seen scene.room)) s
+      leaves = any_on_alike s (Leaves d.robot d.frame) (OnOrBeyond (frame_seen scene.room)) is_scene.room
 
-      meets : Any (λ o. Along s (Meets d.robot o.shape)) d.obstacles ↔ Any (λ sum. Along s (Inside (spots_seen sum))) scene.sums.items
-      meets = any_zipped (IsSumOf d.robot) (λ o. Along s (Meets d.robot o.shape)) (λ sum. Along s (Inside (spots_seen sum)))
-          (λ o sum is_sum. let alike = along_alike s (Inside (spots_seen sum)) (Meets d.robot o.shape) is_sum in (alike.1, alike.0))
+      meets : Any (λ o. AnyOn (Meets d.robot o.shape) s) d.obstacles ↔ Any (λ sum. AnyOn (Inside (spots_seen sum)) s) scene.sums.items
+      meets = any_zipped (IsSumOf d.robot) (λ o. AnyOn (Meets d.robot o.shape) s) (λ sum. AnyOn (Inside (spots_seen sum)) s)
+          (λ o sum is_sum. let alike = any_on_alike s (Inside (spots_seen sum)) (Meets d.robot o.shape) is_sum in (alike.1, alike.0))
           d.obstacles scene.sums.items is_scene.sums
 
       into : LegTouches scene s → SegmentTouches d s

@@ -2,28 +2,25 @@
 use Rattle.std.proofs.Common.{◌≡◌, inl, inr, ℕ, ◌+◌, ◌-◌, ◌<◌, min, max, List, [], length, get_or, slice_get, Some, All, IfSome, IsSomeAnd, sym, ap, ap₂, ◌∙◌, subst, arith}
 use Rattle.std.proofs.lemmas.List.{length-map, get_or-map, get_or_default}
 use Rattle.std.proofs.lemmas.Option.{slice_get-get_or}
-use Rattle.plan_spec.specs.Segment.{Segment}
+use Rattle.plan_spec.specs.Segment.{Segment, AnyOn}
 use Rattle.plan_spec.specs.Polygon.{Inside}
 use Rattle.plan_spec.specs.Frame.{OnOrBeyond}
 use Rattle.plan_spec.specs.Route.{legs}
 use Rattle.plan_top.proofs.Checks.ClearPaths.{length_legs, leg_at}
 use Rattle.plan_grid.specs.declared.spot.Spot.{Spot}
 use Rattle.plan_grid.specs.Frame.{frame_seen}
-use Rattle.plan_grid.specs.Spot.{spot_seen, edge_seen}
-use Rattle.plan_grid.specs.Spot.{spots_seen}
-use Rattle.plan_top.specs.Sum.{Along}
+use Rattle.plan_grid.specs.Spot.{spot_seen, spots_seen, edge_seen}
 use Rattle.plan_top.specs.Check.{LegTouches, IsFirstLeg}
 use Rattle.plan_top.specs.declared.scene.Scene.{Scene}
-use Rattle.plan_grid.proofs.Spots.{corner}
-use Rattle.plan_grid.proofs.Spots.{origin}
+use Rattle.plan_grid.proofs.Spots.{origin, corner}
 
 -- ---- one segment
 pub misses : (scene : Scene) (s : Segment) → ¬ (OnOrBeyond (frame_seen scene.room) s.a) → ¬ (OnOrBeyond (frame_seen scene.room) s.b)
-    → ((k : ℕ) → k < length scene.sums.items → ¬ (Along s (Inside (spots_seen (get_or scene.sums.items k []))))) → ¬ (LegTouches scene s)
+    → ((k : ℕ) → k < length scene.sums.items → ¬ (AnyOn (Inside (spots_seen (get_or scene.sums.items k []))) s)) → ¬ (LegTouches scene s)
 misses scene s na nb none (inl (inl h)) = na h
 misses scene s na nb none (inl (inr h)) = nb h
 misses scene s na nb none (inr (k, sum, within, e, holds)) =
-    none k within (subst (λ p. Along s (Inside (spots_seen p))) (sym e ∙ get_or_default scene.sums.items k sum [] within) holds)
+    none k within (subst (λ p. AnyOn (Inside (spots_seen p)) s) (sym e ∙ get_or_default scene.sums.items k sum [] within) holds)
 
 -- ---- all segments
 abbrev pub leg : List Spot → ℕ → Segment

@@ -9,15 +9,14 @@ use Rattle.plan_exact.specs.Formal.{A, J}
 use Rattle.plan_exact.proofs.Laws.{linear}
 use Rattle.plan_exact.proofs.Ring.{ring}
 use Rattle.plan_spec.specs.Vector.{Vector, IsPoint}
-use Rattle.plan_spec.specs.Segment.{On, segment}
+use Rattle.plan_spec.specs.Segment.{On, segment, AnyOn}
 use Rattle.plan_spec.specs.Polygon.{Inside, IsConvex}
 use Rattle.plan_plane.proofs.Segment.Between.{between, neg_at}
 use Rattle.plan_plane.proofs.Polygon.Fan.{nonneg_at}
 use Rattle.plan_grid.specs.declared.frame.Frame.{Frame}
 use Rattle.plan_grid.specs.declared.spot.Spot.{Spot}
-use Rattle.plan_grid.specs.Spot.{spot_seen, edge_seen}
-use Rattle.plan_grid.specs.Spot.{spots_seen}
-use Rattle.plan_top.specs.Sum.{Along, AreApart, Encloses}
+use Rattle.plan_grid.specs.Spot.{spot_seen, spots_seen, edge_seen}
+use Rattle.plan_top.specs.Box.{AreApart, Encloses}
 use Rattle.plan_top.proofs.Scenes.Leaving.{right_of, left_of, right_of_is, left_of_is}
 
 -- positive above y = m, and below it
@@ -34,23 +33,23 @@ below_of_is : (m : ℤ) (z : Vector) → dot (below_of m) z ≡ m *ℤ z.w -ℤ 
 below_of_is m z = ring (env (m ∷ []) (z ∷ [])) (F.dot (record { x = F.zero; y = con (negsuc 0); w = J }) A) (J ⊗ A.w ⊖ A.y) tt
 
 -- a covector that is nonnegative at all vertices, and negative at both ends
-parted : (vs : List Vector) (p q l : Vector) → IsConvex vs → 3 ≤ length vs → IsPoint p → IsPoint q → All (λ v. pos 0 ≤ℤ dot l v) vs → dot l p <ℤ pos 0 → dot l q <ℤ pos 0 → ¬ (Along (segment p q) (Inside vs))
+parted : (vs : List Vector) (p q l : Vector) → IsConvex vs → 3 ≤ length vs → IsPoint p → IsPoint q → All (λ v. pos 0 ≤ℤ dot l v) vs → dot l p <ℤ pos 0 → dot l q <ℤ pos 0 → ¬ (AnyOn (Inside vs) (segment p q))
 parted vs p q l convex long hp hq within np nq (z, hz, on, inside) =
     let n = neg_at hz (between p q z hp hq hz on) l np nq in
     let m = nonneg_at vs z convex long inside l within in
     omega (arith, linear)
 
 pub apart : (polygon : List Spot) (a b : Spot) (box span : Frame) → IsConvex (spots_seen polygon) → 3 ≤ length polygon → All (Encloses box) polygon → Encloses span a → Encloses span b → AreApart span box
-    → ¬ (Along (edge_seen a b) (Inside (spots_seen polygon)))
+    → ¬ (AnyOn (Inside (spots_seen polygon)) (edge_seen a b))
 apart polygon a b box span convex three boxed ha hb = by
   where
     long : 3 ≤ length (spots_seen polygon)
     long = omega (arith, length-map polygon spot_seen)
 
-    at : (l : Vector) → ((s : Spot) → Encloses box s → pos 0 ≤ℤ dot l (spot_seen s)) → dot l (spot_seen a) <ℤ pos 0 → dot l (spot_seen b) <ℤ pos 0 → ¬ (Along (edge_seen a b) (Inside (spots_seen polygon)))
+    at : (l : Vector) → ((s : Spot) → Encloses box s → pos 0 ≤ℤ dot l (spot_seen s)) → dot l (spot_seen a) <ℤ pos 0 → dot l (spot_seen b) <ℤ pos 0 → ¬ (AnyOn (Inside (spots_seen polygon)) (edge_seen a b))
     at l h = parted (spots_seen polygon) (spot_seen a) (spot_seen b) l convex long (omega (arith, linear)) (omega (arith, linear)) (All-map (λ v. pos 0 ≤ℤ dot l v) spot_seen polygon (λ k d within. h _ (boxed k d within)))
 
-    by : AreApart span box → ¬ (Along (edge_seen a b) (Inside (spots_seen polygon)))
+    by : AreApart span box → ¬ (AnyOn (Inside (spots_seen polygon)) (edge_seen a b))
     by (inl (inl h)) =
         let f = λ (s : Spot). right_of_is box.low.x (spot_seen s) in
         at (right_of box.low.x) (λ s e. omega (arith, linear, f s, e.left)) (omega (arith, linear, f a, ha.right)) (omega (arith, linear, f b, hb.right))

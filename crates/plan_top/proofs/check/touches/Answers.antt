@@ -2,9 +2,8 @@
 use Rattle.std.proofs.Common.{[], get_or, below_more, subst, ◌∙◌, arith}
 use Rattle.std.proofs.lemmas.List.{get_or_default}
 use Rattle.plan_spec.specs.Polygon.{Inside}
-use Rattle.plan_grid.specs.Spot.{edge_seen}
-use Rattle.plan_grid.specs.Spot.{spots_seen}
-use Rattle.plan_top.specs.Sum.{Along}
+use Rattle.plan_grid.specs.Spot.{spots_seen, edge_seen}
+use Rattle.plan_spec.specs.Segment.{AnyOn}
 use Rattle.plan_top.proofs.Checks.Legs.{misses}
 use Rattle.plan_top.proofs.check.touches.Goals as goal
 
@@ -14,8 +13,8 @@ loop-sum-preserved c =
     let s = edge_seen c.args.a c.args.b in
     let value = c.as_slice-sum-items.ensures.value in
     let here = (rw value at c.sum-item.is) ∙ get_or_default sums c.loop-sum.sum-index c.sum-item.result [] (rw value at c.loop-sum-test.true) in
-    below_more (λ k. ¬ (Along s (Inside (spots_seen (get_or sums k []))))) c.loop-sum.sum-index c.loop-sum.invariant
-    (subst (λ sum. ¬ (Along s (Inside (spots_seen sum)))) here (λ h. let e = c.if-meets.ensures.1 h in cc))
+    below_more (λ k. ¬ (AnyOn (Inside (spots_seen (get_or sums k []))) s)) c.loop-sum.sum-index c.loop-sum.invariant
+    (subst (λ sum. ¬ (AnyOn (Inside (spots_seen sum)) s)) here (λ h. let e = c.if-meets.ensures.1 h in cc))
 
 pub returns : goal.returns
 returns c =
