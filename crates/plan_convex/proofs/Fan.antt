@@ -9,7 +9,6 @@ use Rattle.plan_plane.proofs.Polygon.Fan as fan
 use Rattle.plan_grid.specs.declared.spot.Spot.{Spot}
 use Rattle.plan_grid.specs.Spot.{spot_seen, spots_seen, way, cross}
 use Rattle.plan_grid.proofs.Turns.{turn_cross}
-use Rattle.plan_convex.proofs.Triangle.{InTriangle, three_sides}
 
 -- a triangle of spots with the property H that holds p
 pub record HoldingTriangle (H : Spot → Type 0) (p : Vector) : Type 0 where
@@ -20,7 +19,7 @@ pub record HoldingTriangle (H : Spot → Type 0) (p : Vector) : Type 0 where
   pub has_b : H b
   pub has_c : H c
   pub turns : pos 0 <ℤ cross (way a b) (way a c)
-  pub holds : InTriangle a b c p
+  pub holds : Inside (spots_seen (a ∷ b ∷ c ∷ [])) p
 
 -- the vector of a spot with the property
 abbrev Has : (Spot → Type 0) → Vector → Type 0
@@ -32,7 +31,7 @@ of_spots H p a b c x y z turns inside =
     let first = subst (λ (v : Vector). Inside (v ∷ b ∷ c ∷ []) p) (sym x.2) inside in
     let second = subst (λ (v : Vector). Inside (spot_seen x.0 ∷ v ∷ c ∷ []) p) (sym y.2) first in
     let held = subst (λ (v : Vector). Inside (spot_seen x.0 ∷ spot_seen y.0 ∷ v ∷ []) p) (sym z.2) second in
-    record { a = x.0; b = y.0; c = z.0; has_a = x.1; has_b = y.1; has_c = z.1; turns = rw (← turn_cross x.0 y.0 z.0) here; holds = three_sides x.0 y.0 z.0 p held }
+    record { a = x.0; b = y.0; c = z.0; has_a = x.1; has_b = y.1; has_c = z.1; turns = rw (← turn_cross x.0 y.0 z.0) here; holds = held }
 
 pub held_by_triangle : (H : Spot → Type 0) (p : Vector) (vs : List Spot) → 3 ≤ length vs → IsConvex (spots_seen vs) → All H vs → Inside (spots_seen vs) p → HoldingTriangle H p
 held_by_triangle H p vs long convex hs inside =

@@ -5,12 +5,11 @@ use Rattle.std.proofs.lemmas.List.{length-map, get_or-map}
 use Rattle.std.proofs.lemmas.List.Elements.{All-map}
 use Rattle.plan_exact.proofs.Laws.{linear}
 use Rattle.plan_spec.specs.Vector.{Vector, IsPoint, turn}
-use Rattle.plan_spec.specs.Polygon.{IsConvex, edges}
+use Rattle.plan_spec.specs.Polygon.{AreRight, IsConvex, edges}
 use Rattle.plan_plane.proofs.Polygon.Meeting.{MeetsSegment, no_meeting_right_of_edge, no_meeting_left_of_line, meets_segment_decides}
 use Rattle.plan_grid.specs.declared.spot.Spot.{Spot}
 use Rattle.plan_grid.specs.Bounds.{IsInRange}
 use Rattle.plan_grid.specs.Spot.{spot_seen, spots_seen}
-use Rattle.plan_convex.specs.Meets.{AreRight}
 
 -- strictly left of the line from p to q, or strictly right
 abbrev pub IsLeft : Vector → Vector → Spot → Type 0

@@ -7,6 +7,7 @@ use Rattle.plan_exact.specs.Formal as F
 use Rattle.plan_exact.proofs.Ring.{ring}
 use Rattle.plan_spec.specs.Vector.{IsPoint, turn, minus}
 use Rattle.plan_spec.specs.Polygon.{Inside}
+use Rattle.plan_plane.proofs.Polygon.Triangle.{sides, held, inside_turned}
 use Rattle.plan_grid.specs.declared.spot.Spot.{Spot}
 use Rattle.plan_grid.specs.Spot.{spot_seen, IsWithin, spots_seen, opposite}
 use Rattle.plan_convex.specs.declared.walk.Walk.{Walk}
@@ -15,7 +16,6 @@ use Rattle.plan_convex.specs.Walk.{InSum, corners}
 use Rattle.plan_grid.proofs.FormalSpots as S
 use Rattle.plan_grid.proofs.FormalSpots.{coordinates, Pair, P}
 use Rattle.plan_grid.proofs.Triangles.{corners_within, all_within, counterclockwise_from}
-use Rattle.plan_convex.proofs.Triangle.{three_sides, inside_three, inside_turned}
 
 -- ---- from another corner on
 turned_holds : (xs ys : List Spot) (z : Vector) → IsCounterclockwise xs → IsRotation xs ys → Inside (spots_seen ys) z → Inside (spots_seen xs) z
@@ -24,8 +24,8 @@ turned_holds (a ∷ []) ys z h t i = absurd t
 turned_holds (a ∷ (b ∷ [])) ys z h t i = absurd t
 turned_holds (a ∷ (b ∷ (c ∷ (d ∷ rest)))) ys z h t i = absurd t
 turned_holds (a ∷ (b ∷ (c ∷ []))) ys z h (inl e) i = subst (λ l. Inside (spots_seen l) z) e i
-turned_holds (a ∷ (b ∷ (c ∷ []))) ys z h (inr (inl e)) i = inside_turned c a b z (inside_turned b c a z (subst (λ l. Inside (spots_seen l) z) e i))
-turned_holds (a ∷ (b ∷ (c ∷ []))) ys z h (inr (inr e)) i = inside_turned c a b z (subst (λ l. Inside (spots_seen l) z) e i)
+turned_holds (a ∷ (b ∷ (c ∷ []))) ys z h (inr (inl e)) i = inside_turned (spot_seen c) (spot_seen a) (spot_seen b) z (inside_turned (spot_seen b) (spot_seen c) (spot_seen a) z (subst (λ l. Inside (spots_seen l) z) e i))
+turned_holds (a ∷ (b ∷ (c ∷ []))) ys z h (inr (inr e)) i = inside_turned (spot_seen c) (spot_seen a) (spot_seen b) z (subst (λ l. Inside (spots_seen l) z) e i)
 
 holds_turned : (xs ys : List Spot) (z : Vector) → IsCounterclockwise xs → IsRotation xs ys → Inside (spots_seen xs) z → Inside (spots_seen ys) z
 holds_turned [] ys z h t i = absurd t
@@ -33,8 +33,8 @@ holds_turned (a ∷ []) ys z h t i = absurd t
 holds_turned (a ∷ (b ∷ [])) ys z h t i = absurd t
 holds_turned (a ∷ (b ∷ (c ∷ (d ∷ rest)))) ys z h t i = absurd t
 holds_turned (a ∷ (b ∷ (c ∷ []))) ys z h (inl e) i = subst (λ l. Inside (spots_seen l) z) (sym e) i
-holds_turned (a ∷ (b ∷ (c ∷ []))) ys z h (inr (inl e)) i = subst (λ l. Inside (spots_seen l) z) (sym e) (inside_turned a b c z i)
-holds_turned (a ∷ (b ∷ (c ∷ []))) ys z h (inr (inr e)) i = subst (λ l. Inside (spots_seen l) z) (sym e) (inside_turned b c a z (inside_turned a b c z i))
+holds_turned (a ∷ (b ∷ (c ∷ []))) ys z h (inr (inl e)) i = subst (λ l. Inside (spots_seen l) z) (sym e) (inside_turned (spot_seen a) (spot_seen b) (spot_seen c) z i)
+holds_turned (a ∷ (b ∷ (c ∷ []))) ys z h (inr (inr e)) i = subst (λ l. Inside (spots_seen l) z) (sym e) (inside_turned (spot_seen b) (spot_seen c) (spot_seen a) z (inside_turned (spot_seen a) (spot_seen b) (spot_seen c) z i))
 
 -- ---- on the other side of the origin
 opposite_within : (p : Spot) → IsWithin 1023 p → IsWithin 1023 (opposite p)
@@ -66,8 +66,10 @@ opposite_holds (a ∷ (b ∷ [])) z p h = absurd (let e = h.triangle.three in om
 opposite_holds (a ∷ (b ∷ (c ∷ []))) z p h =
     let move = λ (k l : ℤ) (e : k ≡ l) (i : pos 0 ≤ℤ k). subst (λ n. pos 0 ≤ℤ n) e i in
     let ab = opposite_side a b z p in let bc = opposite_side b c z p in let ca = opposite_side c a z p in (
-      λ i. let t = three_sides a b c (minus z p) i in inside_three (opposite a) (opposite b) (opposite c) (minus p z) (record { first = move _ _ ab t.first; second = move _ _ bc t.second; third = move _ _ ca t.third }),
-      λ i. let t = three_sides (opposite a) (opposite b) (opposite c) (minus p z) i in inside_three a b c (minus z p) (record { first = move _ _ (sym ab) t.first; second = move _ _ (sym bc) t.second; third = move _ _ (sym ca) t.third }),
+      λ i. let t = sides (spot_seen a) (spot_seen b) (spot_seen c) (minus z p) i in
+          held (spot_seen (opposite a)) (spot_seen (opposite b)) (spot_seen (opposite c)) (minus p z) (move _ _ ab t.first) (move _ _ bc t.second) (move _ _ ca t.third),
+      λ i. let t = sides (spot_seen (opposite a)) (spot_seen (opposite b)) (spot_seen (opposite c)) (minus p z) i in
+          held (spot_seen a) (spot_seen b) (spot_seen c) (minus z p) (move _ _ (sym ab) t.first) (move _ _ (sym bc) t.second) (move _ _ (sym ca) t.third),
     )
 opposite_holds (a ∷ (b ∷ (c ∷ (d ∷ rest)))) z p h = absurd (let e = h.triangle.three in omega arith)
 

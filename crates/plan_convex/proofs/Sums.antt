@@ -10,6 +10,7 @@ use Rattle.plan_exact.proofs.RingVectors.{ring_vectors}
 use Rattle.plan_exact.proofs.Signs.{signs, mul_pos}
 use Rattle.plan_spec.specs.Vector.{IsPoint, turn, minus}
 use Rattle.plan_spec.specs.Polygon.{Inside}
+use Rattle.plan_plane.proofs.Polygon.Triangle.{LeftOfSides, sides, held}
 use Rattle.plan_grid.specs.declared.spot.Spot.{Spot}
 use Rattle.plan_grid.specs.Spot.{spot_seen, spots_seen, plus, way, cross}
 use Rattle.plan_convex.specs.Walk.{InSum}
@@ -17,7 +18,7 @@ use Rattle.plan_convex.proofs.Corners.{Borders}
 use Rattle.plan_grid.proofs.FormalSpots as S
 use Rattle.plan_grid.proofs.FormalSpots.{coordinates, Pair, P, places, Z}
 use Rattle.plan_convex.proofs.Fan.{HoldingTriangle}
-use Rattle.plan_convex.proofs.Triangle.{InTriangle, three_sides, inside_three, beside_in_triangle}
+use Rattle.plan_convex.proofs.Triangle.{beside_in_triangle}
 use Rattle.plan_grid.proofs.Turns.{beside}
 
 -- v is the sum of a spot of A and a spot of B
@@ -49,7 +50,7 @@ weightedE p u v w =
     let k = weightsE p in
     record { x = k.x ⊗ u.x ⊕ k.y ⊗ v.x ⊕ k.w ⊗ w.x; y = k.x ⊗ u.y ⊕ k.y ⊗ v.y ⊕ k.w ⊗ w.y; w = k.x ⊕ k.y ⊕ k.w }
 
-module _ (a b c : Spot) (p : Vector) (turns : pos 0 <ℤ cross (way a b) (way a c)) (is_point : IsPoint p) (holds : InTriangle a b c p) where
+module _ (a b c : Spot) (p : Vector) (turns : pos 0 <ℤ cross (way a b) (way a c)) (is_point : IsPoint p) (holds : LeftOfSides (spot_seen a) (spot_seen b) (spot_seen c) p) where
   -- the combination of u, v, w with the weights of p is on or left of a line that has u, v, w there
   combined_left : (s t u v w : Spot) → pos 0 ≤ℤ turn (spot_seen s) (spot_seen t) (spot_seen u) → pos 0 ≤ℤ turn (spot_seen s) (spot_seen t) (spot_seen v) → pos 0 ≤ℤ turn (spot_seen s) (spot_seen t) (spot_seen w) → pos 0 ≤ℤ turn (spot_seen s) (spot_seen t) (weighted a b c p u v w)
   combined_left s t u v w hu hv hw =
@@ -78,17 +79,20 @@ module _ (a b c : Spot) (p : Vector) (turns : pos 0 <ℤ cross (way a b) (way a 
 pub sum_holds : (a0 a1 a2 b0 b1 b2 : Spot) (p : Vector) → IsPoint p → HoldingTriangle (IsSum (a0 ∷ a1 ∷ a2 ∷ []) (b0 ∷ b1 ∷ b2 ∷ [])) p → InSum (spots_seen (a0 ∷ a1 ∷ a2 ∷ [])) (spots_seen (b0 ∷ b1 ∷ b2 ∷ [])) p
 sum_holds a0 a1 a2 b0 b1 b2 p is_point h =
     let u = h.has_a.part in let v = h.has_b.part in let w = h.has_c.part in
-    let in_a = λ (x : Spot) (i : Inside (spots_seen (a0 ∷ a1 ∷ a2 ∷ [])) (spot_seen x)). three_sides a0 a1 a2 (spot_seen x) i in
-    let in_b = λ (x : Spot) (i : Inside (spots_seen (b0 ∷ b1 ∷ b2 ∷ [])) (spot_seen x)). three_sides b0 b1 b2 (spot_seen x) i in
+    let in_a = λ (x : Spot) (i : Inside (spots_seen (a0 ∷ a1 ∷ a2 ∷ [])) (spot_seen x)). sides (spot_seen a0) (spot_seen a1) (spot_seen a2) (spot_seen x) i in
+    let in_b = λ (x : Spot) (i : Inside (spots_seen (b0 ∷ b1 ∷ b2 ∷ [])) (spot_seen x)). sides (spot_seen b0) (spot_seen b1) (spot_seen b2) (spot_seen x) i in
     let au = in_a u h.has_a.first in let av = in_a v h.has_b.first in let aw = in_a w h.has_c.first in
     let bu = in_b (way u h.a) h.has_a.second in let bv = in_b (way v h.b) h.has_b.second in let bw = in_b (way w h.c) h.has_c.second in
     let z = weighted h.a h.b h.c p u v w in
-    let left = combined_left h.a h.b h.c p h.turns is_point h.holds in
-    let rest = rest_left h.a h.b h.c p h.turns is_point h.holds in (
+    let holds = sides (spot_seen h.a) (spot_seen h.b) (spot_seen h.c) p h.holds in
+    let left = combined_left h.a h.b h.c p h.turns is_point holds in
+    let rest = rest_left h.a h.b h.c p h.turns is_point holds in (
       z,
-      combined_point h.a h.b h.c p h.turns is_point h.holds u v w,
-      inside_three a0 a1 a2 z (record { first = left a0 a1 u v w au.first av.first aw.first; second = left a1 a2 u v w au.second av.second aw.second; third = left a2 a0 u v w au.third av.third aw.third }),
-      inside_three b0 b1 b2 (minus p z) (record { first = rest b0 b1 u v w bu.first bv.first bw.first; second = rest b1 b2 u v w bu.second bv.second bw.second; third = rest b2 b0 u v w bu.third bv.third bw.third }),
+      combined_point h.a h.b h.c p h.turns is_point holds u v w,
+      held (spot_seen a0) (spot_seen a1) (spot_seen a2) z
+          (left a0 a1 u v w au.first av.first aw.first) (left a1 a2 u v w au.second av.second aw.second) (left a2 a0 u v w au.third av.third aw.third),
+      held (spot_seen b0) (spot_seen b1) (spot_seen b2) (minus p z)
+          (rest b0 b1 u v w bu.first bv.first bw.first) (rest b1 b2 u v w bu.second bv.second bw.second) (rest b2 b0 u v w bu.third bv.third bw.third),
     )
 
 -- ---- lines
@@ -103,4 +107,4 @@ beside_sum v w d x z hx hz first second =
 -- the line in the direction d through the sum of two corners, where both triangles are on or left of it
 pub borders_sum : (p q r s t u d : Spot) → pos 0 <ℤ cross (way p q) (way p r) → pos 0 <ℤ cross (way s t) (way s u) → pos 0 ≤ℤ cross d (way p q) → pos 0 ≤ℤ cross d (way p r) → pos 0 ≤ℤ cross d (way s t) → pos 0 ≤ℤ cross d (way s u) → Borders (InSum (spots_seen (p ∷ q ∷ r ∷ [])) (spots_seen (s ∷ t ∷ u ∷ []))) (plus p s) d
 borders_sum p q r s t u d turns_a turns_b pq pr st su x is_point i =
-    beside_sum p s d x i.0 is_point i.1 (beside_in_triangle p q r d i.0 turns_a (three_sides p q r i.0 i.2) pq pr) (beside_in_triangle s t u d (minus x i.0) turns_b (three_sides s t u (minus x i.0) i.3) st su)
+    beside_sum p s d x i.0 is_point i.1 (beside_in_triangle p q r d i.0 turns_a i.2 pq pr) (beside_in_triangle s t u d (minus x i.0) turns_b i.3 st su)

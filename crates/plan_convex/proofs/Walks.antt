@@ -9,12 +9,12 @@ use Rattle.plan_exact.proofs.Ring.{ring}
 use Rattle.plan_exact.proofs.Signs.{sign_of, mul_zero}
 use Rattle.plan_spec.specs.Vector.{Before}
 use Rattle.plan_spec.specs.Polygon.{Inside}
+use Rattle.plan_plane.proofs.Polygon.Triangle.{inside_turned}
 use Rattle.plan_grid.specs.declared.spot.Spot.{Spot}
 use Rattle.plan_grid.specs.Spot.{spot_seen, IsWithin, spots_seen, way, cross}
 use Rattle.plan_convex.specs.declared.walk.Walk.{Walk}
 use Rattle.plan_convex.specs.Walk.{corners, edge, IsStart, IsOnward}
 use Rattle.plan_grid.proofs.Triangles.{corners_within}
-use Rattle.plan_convex.proofs.Triangle.{inside_turned}
 use Rattle.plan_grid.proofs.Turns.{turn_cross}
 use Rattle.plan_grid.proofs.FormalSpots as S
 use Rattle.plan_grid.proofs.FormalSpots.{coordinates, P}
@@ -75,8 +75,8 @@ round_gone t w n e h = record {
   at_bounded = h.next_bounded;
   next_bounded = h.previous_bounded;
   previous_bounded = h.at_bounded;
-  same = λ z i. inside_turned w.at w.next w.previous z (h.same z i);
-  back = λ z i. h.back z (inside_turned w.previous w.at w.next z (inside_turned w.next w.previous w.at z i));
+  same = λ z i. inside_turned (spot_seen w.at) (spot_seen w.next) (spot_seen w.previous) z (h.same z i);
+  back = λ z i. h.back z (inside_turned (spot_seen w.previous) (spot_seen w.at) (spot_seen w.next) z (inside_turned (spot_seen w.next) (spot_seen w.previous) (spot_seen w.at) z i));
   placed = placed_onward baseline t.at n w.at w.next w.previous (subst (λ k. IsPlaced baseline t.at k w.at w.next w.previous) e h.placed);
 }
 

@@ -1,5 +1,4 @@
 pub mod Convex
-pub mod Meets
 pub mod Walk
 pub mod Parameter
 pub mod Part

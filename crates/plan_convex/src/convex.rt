@@ -1,18 +1,17 @@
 ghost use Rattle.std.specs.Prelude.{◌≡◌, pos, ◌<ℤ◌, ◌≤◌, ◌↔◌, length, All, Any, IsTrue};
-ghost use Rattle.plan_spec.specs.Vector.{Vector, IsPoint, turn};
-ghost use Rattle.plan_spec.specs.Segment.{On};
-ghost use Rattle.plan_spec.specs.Polygon.{IsConvex, Inside, edges};
+ghost use Rattle.plan_spec.specs.Vector.{turn};
+ghost use Rattle.plan_spec.specs.Segment.{AnyOn, segment};
+ghost use Rattle.plan_spec.specs.Polygon.{AreRight, IsConvex, Inside, edges};
 ghost use Rattle.plan_grid.specs.Order.{IsSign};
 ghost use Rattle.plan_grid.specs.Spot.{spot_seen, spots_seen, edge_seen, IsWithin};
 ghost use Rattle.plan_convex.specs.Convex.{IsPolygon};
-ghost use Rattle.plan_convex.specs.Meets.{AreRight};
 
 use crate::vertices::Vertices;
-use plan_grid::{Point, Spot, orientation_at, side_of};
+use plan_grid::{MOST_COORDINATE, Point, Spot, orientation_at, side_of};
 use std::cmp::Ordering;
 use std::marker::Model;
 
-/// A strictly convex polygon with three to six vertices, counterclockwise from the least one (by x, then by y), with
+/// A strictly convex polygon of three to six spots, counterclockwise from the least one (by x, then by y), with
 /// coordinates of at most 2046 in absolute value. Its boundary belongs to it.
 #[derive(Clone, Debug, Drop)]
 pub struct Convex {
@@ -39,13 +38,13 @@ impl Convex {
         Convex { vertices }
     }
 
-    /// The vertices.
+    /// The three to six vertices, counterclockwise from the least one on.
     pub fn spots(&self) -> &[Spot]
         ensures value { result.now ≡ self.now }
         ensures at_least_three { 3 ≤ length self.now }
         ensures at_most_six { length self.now ≤ 6 }
         ensures convex { IsConvex (spots_seen self.now) }
-        ensures bounded { All (IsWithin 2046) self.now }
+        ensures bounded { All (IsWithin MOST_COORDINATE) self.now }
     {
         self.vertices.as_slice()
     }
@@ -64,11 +63,11 @@ impl Convex {
     }
 
     /// Whether some rational point of the segment from `p` to `q` is in the polygon or on its boundary: no edge has
-    /// both ends strictly right of it, and the vertices are not all strictly on one side of the segment's line.
+    /// both ends strictly right of it, and the vertices are not all strictly on one side of the segment's line. Two
+    /// convex sets without a common point have a line between them, here one along a side of either (de Berg et al.,
+    /// Computational Geometry, 3rd ed.).
     pub fn meets(&self, p: &Point, q: &Point) -> bool
-        ensures { IsTrue result
-            ↔ ((z : Vector) × IsPoint z × On (record { a = p.now; b = q.now }) z
-            × Inside (spots_seen self.now) z) }
+        ensures { IsTrue result ↔ AnyOn (Inside (spots_seen self.now)) (segment p.now q.now) }
     {
         prove!(p.w() > 0);
         prove!(q.w() > 0);
@@ -111,7 +110,7 @@ fn are_right(a: Spot, b: Spot, p: &Point, q: &Point) -> bool
 
 // Whether all spots are on this side of the line from `p` to `q`.
 fn are_all(side: Ordering, spots: &[Spot], p: &Point, q: &Point) -> bool
-    requires { All (IsWithin 2046) spots.now }
+    requires { All (IsWithin MOST_COORDINATE) spots.now }
     ensures { IsTrue result ↔ All (λ v. IsSign side (turn p.now q.now (spot_seen v))) spots.now }
 {
     for v in spots {

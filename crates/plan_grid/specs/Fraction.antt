@@ -43,7 +43,10 @@ middle_of p q = record { num = p.num *ℤ q.den +ℤ q.num *ℤ p.den; den = pos
 
 -- the y at x of the line through a and b, which have weight 1
 abbrev pub height_of : Vector → Vector → Fraction → Fraction
-height_of a b x = record { num = a.y *ℤ (b.x *ℤ x.den -ℤ x.num) +ℤ b.y *ℤ (x.num -ℤ a.x *ℤ x.den); den = (b.x -ℤ a.x) *ℤ x.den }
+height_of a b x = record {
+  num = a.y *ℤ (b.x *ℤ x.den -ℤ x.num) +ℤ b.y *ℤ (x.num -ℤ a.x *ℤ x.den);
+  den = (b.x -ℤ a.x) *ℤ x.den;
+}
 
 -- the point with these coordinates
 abbrev pub point_at : Fraction → Fraction → Vector

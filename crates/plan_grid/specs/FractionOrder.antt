@@ -31,6 +31,29 @@ den_is_positive p = omega (arith, ints, clamps)
 pub positive_den_is : (p : Fraction) → pos 1 ≤ℤ p.den → positive_den p ≡ p.den
 positive_den_is p h = omega (arith, ints, clamps)
 
+-- x is less than y, or at most y, by value
+abbrev Lt : Fraction → Fraction → Type 0
+Lt x y = (x.num *ℤ positive_den y) <ℤ (y.num *ℤ positive_den x)
+
+abbrev Le : Fraction → Fraction → Type 0
+Le x y = (x.num *ℤ positive_den y) ≤ℤ (y.num *ℤ positive_den x)
+
+module _ (x y z : Fraction) where
+  lt_le : Lt x y → Le y z → Lt x z
+  lt_le =
+      lt_le_trans x.num (positive_den x) y.num (positive_den y) z.num (positive_den z)
+      (den_is_positive x) (den_is_positive y) (den_is_positive z)
+
+  le_lt : Le x y → Lt y z → Lt x z
+  le_lt =
+      le_lt_trans x.num (positive_den x) y.num (positive_den y) z.num (positive_den z)
+      (den_is_positive x) (den_is_positive y) (den_is_positive z)
+
+  le_le : Le x y → Le y z → Le x z
+  le_le =
+      le_trans x.num (positive_den x) y.num (positive_den y) z.num (positive_den z)
+      (den_is_positive x) (den_is_positive y) (den_is_positive z)
+
 module _ (x y z : Fraction) where
   antisymmetric : fraction_cmp x y ≡ ordering_reverse (fraction_cmp y x)
   antisymmetric = int_cmp_total.antisymm (x.num *ℤ positive_den y) (y.num *ℤ positive_den x)
@@ -39,14 +62,16 @@ module _ (x y z : Fraction) where
   transitive e f =
       let h = int_ranked (x.num *ℤ positive_den y) (y.num *ℤ positive_den x) Less (sym e) in
       let k = int_ranked (y.num *ℤ positive_den z) (z.num *ℤ positive_den y) Less (sym f) in
-      sym (order_is_cmp Less _ _ (lt_le_trans x.num (positive_den x) y.num (positive_den y) z.num (positive_den z) (den_is_positive x) (den_is_positive y) (den_is_positive z) h (omega (arith, linear))))
+      sym (order_is_cmp Less _ _ (lt_le x y z h (omega (arith, linear))))
 
-  same_order : (o : Ordering) → x.num *ℤ positive_den y ≡ y.num *ℤ positive_den x → IsOrder o (x.num *ℤ positive_den z) (z.num *ℤ positive_den x) → IsOrder o (y.num *ℤ positive_den z) (z.num *ℤ positive_den y)
-  same_order Less e h = le_lt_trans y.num (positive_den y) x.num (positive_den x) z.num (positive_den z) (den_is_positive y) (den_is_positive x) (den_is_positive z) (omega (arith, linear)) h
-  same_order Greater e h = lt_le_trans z.num (positive_den z) x.num (positive_den x) y.num (positive_den y) (den_is_positive z) (den_is_positive x) (den_is_positive y) h (omega (arith, linear))
+  same_order : (o : Ordering) → x.num *ℤ positive_den y ≡ y.num *ℤ positive_den x
+      → IsOrder o (x.num *ℤ positive_den z) (z.num *ℤ positive_den x)
+      → IsOrder o (y.num *ℤ positive_den z) (z.num *ℤ positive_den y)
+  same_order Less e h = le_lt y x z (omega (arith, linear)) h
+  same_order Greater e h = lt_le z x y h (omega (arith, linear))
   same_order Equal e h =
-      let up = le_trans y.num (positive_den y) x.num (positive_den x) z.num (positive_den z) (den_is_positive y) (den_is_positive x) (den_is_positive z) (omega (arith, linear)) (omega (arith, linear)) in
-      let down = le_trans z.num (positive_den z) x.num (positive_den x) y.num (positive_den y) (den_is_positive z) (den_is_positive x) (den_is_positive y) (omega (arith, linear)) (omega (arith, linear)) in
+      let up = le_le y x z (omega (arith, linear)) (omega (arith, linear)) in
+      let down = le_le z x y (omega (arith, linear)) (omega (arith, linear)) in
       omega (arith, linear)
 
   congruent : fraction_cmp x y ≡ Equal → fraction_cmp x z ≡ fraction_cmp y z

@@ -24,5 +24,8 @@ pub record IsCounterclockwise (corners : List Spot) : Type 0 where
 
 -- the same triangle, from its first, second or third corner on
 abbrev pub IsRotation : List Spot → List Spot → Type 0
-IsRotation (a ∷ b ∷ c ∷ []) rotated = (rotated ≡ a ∷ b ∷ c ∷ []) ⊎ ((rotated ≡ b ∷ c ∷ a ∷ []) ⊎ (rotated ≡ c ∷ a ∷ b ∷ []))
+IsRotation (a ∷ b ∷ c ∷ []) rotated =
+    (rotated ≡ a ∷ b ∷ c ∷ [])
+    ⊎ ((rotated ≡ b ∷ c ∷ a ∷ [])
+    ⊎ (rotated ≡ c ∷ a ∷ b ∷ []))
 IsRotation _ rotated = ⊥

@@ -8,26 +8,14 @@ use std::cmp::Ordering;
 pub fn sign(a: Whole) -> Ordering
     ensures { IsSign result a }
 {
-    if a.is_positive() {
-        Ordering::Greater
-    } else if a.is_negative() {
-        Ordering::Less
-    } else {
-        Ordering::Equal
-    }
+    order(a, Whole::from(0_i32))
 }
 
 // How `a` stands to `b`.
 pub fn order(a: Whole, b: Whole) -> Ordering
     ensures { IsOrder result a b }
 {
-    if a.is_below(b) {
-        Ordering::Less
-    } else if b.is_below(a) {
-        Ordering::Greater
-    } else {
-        Ordering::Equal
-    }
+    a.cmp(&b)
 }
 
 // How `a / p` stands to `b / q`, whose denominators are positive, by the cross products.

@@ -1,6 +1,6 @@
 -- The edges so far are not right.
 use Rattle.std.proofs.Common.{ℕ, ◌<◌}
-use Rattle.plan_convex.specs.Meets.{AreRight}
+use Rattle.plan_spec.specs.Polygon.{AreRight}
 use Rattle.plan_convex.proofs.Edges.{edge_at}
 use Rattle.plan_convex.proofs.convex.is_right_of_edge.Given as goal
 
