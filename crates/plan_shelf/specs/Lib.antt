@@ -1,0 +1,5 @@
+pub mod History
+pub mod Views
+pub mod Known
+pub mod Told
+pub mod Tied

@@ -1,0 +1,20 @@
+//! The published versions: one editor publishes entries, and readers look at the last one without waiting.
+#![tactic(auto)]
+
+mod copies;
+mod editor;
+mod history;
+mod no_memory;
+mod reader;
+mod rule;
+mod shelf;
+mod told;
+
+pub use editor::{Editor, MOST_PUBLISHED};
+pub use no_memory::NoMemory;
+pub use reader::Reader;
+pub use shelf::Shelf;
+pub use told::Told;
+
+#[cfg(test)]
+mod tests;
