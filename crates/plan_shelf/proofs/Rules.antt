@@ -1,11 +1,12 @@
 -- Each step keeps the rule of the two copies, since what is shown stays of one shelf, and a view that changes is then of that shelf.
-use Rattle.std.proofs.Common.{◌≡◌, ℕ, List, [], ◌∷◌, ◌++◌, fold, Option, Some, None, set, refl, sym, subst, ⊎_elim}
+use Rattle.std.proofs.Common.{◌≡◌, ℕ, List, [], ◌∷◌, ◌++◌, fold, ap, ◌∙◌, Option, Some, None, set, refl, sym, subst, ⊎_elim}
 use mathlib.Core.Option.{some}
 use lib.ListN.{get_elem?}
 use Rattle.left_right.specs.Register.{Admits, TurnsAt, Forks, Merges}
 use Rattle.atomic_table.proofs.Lists.{at_set, at_snoc}
 use Rattle.logbook.specs.declared.tokens.Seen.{Seen}
 use Rattle.plan_shelf.specs.declared.history.History.{History}
+use Rattle.plan_shelf.specs.declared.told.Told.{Told}
 use Rattle.plan_shelf.specs.declared.rule.Shown.{Shown}
 use Rattle.plan_shelf.specs.Views.{IsOf, AllOf}
 
@@ -23,9 +24,17 @@ sees seat v x y same views h at = (
 )
 
 -- where each operation sets the state, the last one is what counts
-pub last_counts : {S O : Type 0} (f : O → S) (s : S) (xs : List O) (o : O) → fold (λ (before : S) (next : O). f next) s (xs ++ o ∷ []) ≡ f o
+last_counts : {S O : Type 0} (f : O → S) (s : S) (xs : List O) (o : O) → fold (λ (before : S) (next : O). f next) s (xs ++ o ∷ []) ≡ f o
 last_counts f s [] o = refl
 last_counts f s (x ∷ xs) o = last_counts f (f x) xs o
+
+-- what the last operation sets may be shown, where it is of the shelf that is shown
+pub shows : {T : Type 0} (seat : ℕ) (v : Option (Seen T ℕ History)) (x y : Shown T) (before pending : List (Told T)) (last : Told T)
+    → pending ≡ before ++ last ∷ [] → y.told.seen ≡ fold (λ _ n. n.seen) x.told.seen pending → last.seen.book ≡ x.told.seen.book
+    → TurnsAt (λ (x : Shown T). AllOf x.told.seen.book) seat v x y (λ v x y w. IsOf x.told.seen.book v × (w ≡ Some y.told.seen))
+shows seat v x y before pending last all is same =
+    let seen : y.told.seen ≡ last.seen = is ∙ (ap (fold (λ _ n. n.seen) x.told.seen) all ∙ last_counts (λ n. n.seen) x.told.seen before last) in
+    sees seat v x y (ap (λ s. s.book) seen ∙ same)
 
 -- the writer's view is known to one more
 pub forks : {T : Type 0} (seat : ℕ) (v : Option (Seen T ℕ History)) → Forks (λ (x : Shown T). AllOf x.told.seen.book) seat v v v

@@ -14,8 +14,8 @@ use std::sync::Wait;
 
 pub(crate) type Copies<T> = Writer<Shown<T>, Told<T>, Option<Seen<T, u64, History>>, OneShelf>;
 
-// Two copies that show this entry, and places for so many readers. The entry is shown once more, which lets
-// the writer know of which shelf it is, and makes the room that later changes need.
+// Two copies that show this entry, and places for so many readers. The entry is shown once more,
+// which lets the writer know of which shelf it is, and makes the room that later changes need.
 pub(crate) fn copies<T: Drop, R: Wait>(
     rt: &R,
     alloc: Global,
@@ -55,7 +55,9 @@ pub(crate) fn show<T: Drop, R: Wait>(
     next: Told<T>,
 ) -> (Copies<T>, Result<(), NoMemory>)
     requires { writer.desk.shown.value.told.seen.book ≡ next.seen.book }
-    ensures { MatchResult result.1 (λ _. IsOfShelf next.seen.book result.0) (λ _. IsOfShelf next.seen.book writer → IsOfShelf next.seen.book result.0) }
+    ensures { MatchResult result.1
+        (λ _. IsOfShelf next.seen.book result.0)
+        (λ _. IsOfShelf next.seen.book writer → IsOfShelf next.seen.book result.0) }
 {
     let Ok(()) = writer.append(next) else {
         return (writer, Err(NoMemory));

@@ -19,8 +19,8 @@ use std::sync::{Arc, Wait};
 /// The most entries that an editor publishes after the first.
 pub const MOST_PUBLISHED: u32 = 2048;
 
-/// An editor, over what writes the two copies that readers take entries from. Contracts see its shelf, and
-/// the list of the entries that it has published, from the first on.
+/// An editor, over what writes the two copies that readers take entries from. Contracts see its
+/// shelf, and the list of the entries that it has published, from the first on.
 pub struct Publisher<W, T: Drop> {
     pub(crate) writer: Option<W>,
     pub(crate) head: Word<T, u64, History>,
@@ -34,7 +34,11 @@ impl<W, T: Drop> Model for Publisher<W, T> {
 
     ghost Value = { Edited W T };
 
-    ghost view = { λ e. record { shelf = e.last.seen.book; list = e.last.seen.log; writer = e.writer } };
+    ghost view = { λ e. record {
+      shelf = e.last.seen.book;
+      list = e.last.seen.log;
+      writer = e.writer;
+    } };
 
     ghost invariant = { λ e. e.head ≡ head_of e.last.seen.book };
 }
@@ -43,24 +47,25 @@ impl<W, T: Drop> Model for Publisher<W, T> {
 pub type Editor<T> = Publisher<Copies<T>, T>;
 
 impl<T: Drop> Publisher<Writer<Shown<T>, Told<T>, Option<Seen<T, u64, History>>, OneShelf>, T> {
-    /// Publishes the entry: it is the last of the list, and readers that look from now on find it. It may wait
-    /// for a reader that reads.
+    /// Publishes the entry: it is the last of the list. It may wait for a reader that is looking.
     ///
-    /// Where it is refused the list is as before. A refusal of a further owner of the entry leaves all as it
-    /// was. A later one, of room or of another owner, leaves the entry in the history that the proofs keep, where
-    /// no reader ever finds it; from then on every call is refused.
+    /// Where it is refused the list is as before. A refusal of a further owner of the entry leaves
+    /// all as it was. A later one, of room or of one more owner, leaves the entry in the history,
+    /// where no reader finds it, and from then on every call is refused. `start` makes that room.
     pub fn publish<R: Wait>(&mut self, rt: &R, entry: Arc<T>) -> Result<(), NoMemory>
         requires room { length self.old.list ≤ MOST_PUBLISHED }
         requires tied { IsTied self.old }
         ensures tied { IsTied self.new }
         ensures shelf { self.new.shelf ≡ self.old.shelf }
-        ensures list { MatchResult result (λ _. self.new.list ≡ self.old.list ++ arc_value entry ∷ []) (λ _. self.new.list ≡ self.old.list) }
+        ensures list { MatchResult result
+            (λ _. self.new.list ≡ self.old.list ++ arc_value entry ∷ [])
+            (λ _. self.new.list ≡ self.old.list) }
     {
-        let (next, further) = follow(&self.head, &self.last, entry)?;
+        let (next, shown) = follow(&self.head, &self.last, entry)?;
         let Some(writer) = self.writer.take() else {
             unreachable!()
         };
-        let (writer, done) = show(rt, writer, further);
+        let (writer, done) = show(rt, writer, shown);
         if let Some(other) = mem::replace(&mut self.writer, Some(writer)) {
             drop(other.take(rt));
         }
@@ -69,7 +74,7 @@ impl<T: Drop> Publisher<Writer<Shown<T>, Told<T>, Option<Seen<T, u64, History>>,
         Ok(())
     }
 
-    /// Ends the editor. It waits for the readers that read. They keep their entries and lists.
+    /// Ends the editor. It may wait for a reader that is looking. Readers keep their lists.
     pub fn finish<R: Wait>(self, rt: &R) {
         let Publisher {
             writer,
@@ -83,8 +88,8 @@ impl<T: Drop> Publisher<Writer<Shown<T>, Told<T>, Option<Seen<T, u64, History>>,
 }
 
 impl<W, T: Drop> Publisher<W, T> {
-    /// A token with the editor's list, for one call of `learn` or `settle`. It is refused where a further owner of the
-    /// last entry is.
+    /// A token with the editor's list, for one call of `learn` or `settle`. It is refused where a
+    /// further owner of the last entry is.
     pub fn told(&mut self) -> Result<Told<T>, NoMemory>
         ensures same { self.new ≡ self.old }
         ensures told { IfOk result (λ t. (told_shelf t ≡ self.old.shelf) × (told_list t ≡ self.old.list)) }
@@ -108,15 +113,11 @@ fn follow<T: Drop>(
     let further = Arc::try_clone(&entry)?;
     let place = last.place + 1;
     let seen = add(head, &last.seen, place, &entry).ok_or(NoMemory)?;
-    let next = Told {
-        place,
-        entry,
-        seen: seen.again(),
-    };
-    let again = Told {
+    let shown = Told {
         place,
         entry: further,
-        seen,
+        seen: seen.again(),
     };
-    Ok((next, again))
+    let next = Told { place, entry, seen };
+    Ok((next, shown))
 }

@@ -1,5 +1,5 @@
-//! The history: every entry that was published, in order. It exists in the proofs alone; a `Seen` is a
-//! beginning of it. What threads share is one word, its length.
+//! The history: every entry that was published, in order. It exists in the proofs alone; a `Seen`
+//! is a beginning of it. What threads share is one word, its length.
 ghost use Rattle.std.specs.Prelude.{◌≡◌, [], ◌∷◌, ◌++◌, length, IfSome};
 ghost use Rattle.std.specs.Arc.{arc_value};
 ghost use Rattle.plan_shelf.specs.History.{head_of};

@@ -1,4 +1,5 @@
-//! The published versions: one editor publishes entries, and readers look at the last one without waiting.
+//! Published versions: one editor publishes entries, and readers look at the last one and never wait.
+//! Of any two lists of entries that are known of one shelf, one begins the other.
 #![tactic(auto)]
 
 mod copies;

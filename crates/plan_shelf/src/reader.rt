@@ -12,8 +12,8 @@ use left_right::reader::Reader as Side;
 use logbook::Seen;
 use std::marker::Model;
 
-/// A reader. It keeps an entry, and waits for nobody. Contracts see its shelf, and the list of the entries
-/// that it has seen or was told of, from the first to the one that it keeps.
+/// A reader. It keeps an entry, and waits for nobody. Contracts see its shelf, and the list of the
+/// entries that it has seen or was told of, from the first to the one that it keeps.
 #[derive(Drop)]
 pub struct Reader<T: Drop> {
     side: Option<Side<Shown<T>, Option<Seen<T, u64, History>>, OneShelf>>,
@@ -59,11 +59,12 @@ impl<T: Drop> Reader<T> {
         self.kept.place
     }
 
-    /// The last entry of its list, once it has looked at the shelf. The list stays where the editor is gone,
-    /// and where a further owner of a later entry is refused.
+    /// The last entry of its list, once it has looked at the shelf. The list stays where the editor
+    /// is gone, and where a further owner of a later entry is refused.
     pub fn look(&mut self) -> &T
         // the reader after the call, once the answer is no longer used
-        ensures* after { sem 𝓛 (follows_so (the_row T.row) (the_row T.row) self.entry.ghost_name none (λ _ _. ⊤) (λ after. Looked self.old after result.now)) }
+        ensures* after { sem 𝓛 (follows_so (the_row T.row) (the_row T.row) self.entry.ghost_name none
+            (λ _ _. ⊤) (λ after. Looked self.old after result.now)) }
     {
         self.refresh();
         &*self.kept.entry
@@ -79,8 +80,8 @@ impl<T: Drop> Reader<T> {
         }
     }
 
-    /// Takes in what the editor told: the list becomes the longer of its own and the told one. The answer is
-    /// always true.
+    /// Takes in what the editor told: the list becomes the longer of its own and the told one. The
+    /// answer is always true.
     pub fn learn(&mut self, told: Told<T>) -> bool
         requires shelf { told_shelf told ≡ self.old.shelf }
         ensures shelf { self.new.shelf ≡ self.old.shelf }
@@ -100,7 +101,9 @@ impl<T: Drop> Reader<T> {
         requires shelf { told_shelf told ≡ self.old.shelf }
         ensures shelf { self.new.shelf ≡ self.old.shelf }
         ensures answer { IsTrue result ↔ (length self.old.list ≤ length (told_list told)) }
-        ensures list { MatchBool result (IsPrefix self.old.list (told_list told) × (self.new.list ≡ told_list told)) (self.new ≡ self.old) }
+        ensures list { MatchBool result
+            (IsPrefix self.old.list (told_list told) × (self.new.list ≡ told_list told))
+            (self.new ≡ self.old) }
     {
         let settles = self.kept.begins(&told);
         if settles {

@@ -18,8 +18,8 @@ use std::sync::{Arc, Wait};
 pub struct Shelf;
 
 impl Shelf {
-    /// A shelf with one entry: its editor, and at most so many readers, from 1 to 8. There may be fewer, which is no
-    /// fault.
+    /// A shelf with one entry: its editor, and at most so many readers, from 1 to 8. There may be
+    /// fewer, which is no fault.
     pub fn start<T: Drop, R: Wait>(
         rt: &R,
         alloc: Global,
@@ -28,7 +28,8 @@ impl Shelf {
     ) -> Result<(Editor<T>, Vec<Reader<T>>), NoMemory>
         requires { (1 ≤ readers) × (readers ≤ 8) }
         ensures editor { IfOk result (λ r. IsTied r.0 × (r.0.list ≡ arc_value first ∷ [])) }
-        ensures readers { IfOk result (λ r. All (λ x. (x.shelf ≡ r.0.shelf) × (x.list ≡ arc_value first ∷ [])) r.1.items) }
+        ensures readers { IfOk result (λ r.
+            All (λ x. (x.shelf ≡ r.0.shelf) × (x.list ≡ arc_value first ∷ [])) r.1.items) }
         ensures most { IfOk result (λ r. length r.1.items ≤ readers) }
     {
         let (head, last) = begin(first)?;
@@ -74,7 +75,8 @@ fn hand_out_all<T: Drop>(
 ) -> Result<Vec<Reader<T>>, NoMemory>
     requires { IsOfShelf last.now.seen.book writer.old }
     ensures writer { IsOfShelf last.now.seen.book writer.new }
-    ensures readers { IfOk result (λ v. All (λ r. (r.shelf ≡ last.now.seen.book) × (r.list ≡ last.now.seen.log)) v.items) }
+    ensures readers { IfOk result (λ v.
+        All (λ r. (r.shelf ≡ last.now.seen.book) × (r.list ≡ last.now.seen.log)) v.items) }
     ensures most { IfOk result (λ v. length v.items ≤ readers) }
 {
     let mut all = Vec::new(alloc);

@@ -8,8 +8,8 @@ use logbook::Seen;
 use std::alloc::AllocError;
 use std::sync::Arc;
 
-/// The last entry of a list of published entries, and its place, from 0. Contracts see also the whole list
-/// and its shelf, as `told_list` and `told_shelf`. Only an editor makes one.
+/// The last entry of a list of published entries, and its place, from 0. Contracts see also the
+/// whole list and its shelf, as `told_list` and `told_shelf`. Only an editor makes one.
 #[derive(Drop)]
 pub struct Told<T: Drop> {
     /// How many entries were published after the first.
@@ -37,7 +37,9 @@ impl<T: Drop> Told<T> {
     pub(crate) fn begins(&self, other: &Told<T>) -> bool
         requires { other.now.seen.book ≡ self.now.seen.book }
         ensures place { IsTrue result ↔ (self.now.place ≤ other.now.place) }
-        ensures order { MatchBool result (IsPrefix self.now.seen.log other.now.seen.log) (IsPrefix other.now.seen.log self.now.seen.log) }
+        ensures order { MatchBool result
+            (IsPrefix self.now.seen.log other.now.seen.log)
+            (IsPrefix other.now.seen.log self.now.seen.log) }
     {
         let mut both = self.seen.again();
         both.learn(&other.seen);
