@@ -1,5 +1,5 @@
 -- The change may be shown: the last operation sets what is shown, and it is of the shelf that is shown already.
-use Rattle.std.proofs.Common.{sym, ◌∙◌, ap, drop}
+use Rattle.std.proofs.Common.{◌≡◌, drop}
 use Rattle.plan_shelf.proofs.Rules.{shows}
 use Rattle.plan_shelf.proofs.copies.show.Goals as goal
 
@@ -7,5 +7,5 @@ pub publish_as-requires : goal.publish_as-requires
 publish_as-requires g c next is =
     let old = c.args.writer in
     let new = c.append.new.self in
-    let same = sym c.requires ∙ sym (ap (λ d. d.shown.value.told.seen.book) c.in-Ok.ensures.desk) in
+    let same : c.args.next.seen.book ≡ new.desk.shown.value.told.seen.book = cc (c.requires, c.in-Ok.ensures.desk) in
     shows _ _ new.desk.shown.value next (drop old.behind old.log.items) (drop new.behind new.log.items) _ c.in-Ok.ensures.pending is same
