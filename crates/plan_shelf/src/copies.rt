@@ -1,6 +1,7 @@
 //! The two copies that readers take entries from, as their writer holds them.
 ghost use Rattle.std.specs.Prelude.{◌≡◌, ◌≤◌, IfOk, MatchResult};
-ghost use Rattle.plan_shelf.specs.Tied.{IsOfShelf};
+ghost use Rattle.left_right.specs.Sides.{view};
+ghost use Rattle.plan_shelf.specs.Tied.{Shows};
 
 use crate::history::History;
 use crate::no_memory::NoMemory;
@@ -23,7 +24,7 @@ pub(crate) fn copies<T: Drop, R: Wait>(
     readers: u8,
 ) -> Result<Copies<T>, NoMemory>
     requires { 1 ≤ readers }
-    ensures { IfOk result (λ w. IsOfShelf last.now.seen.book w) }
+    ensures { IfOk result (λ w. Shows last.now.seen.book last.now.seen.log w) }
 {
     let first = Shown {
         told: last.again()?,
@@ -56,8 +57,8 @@ pub(crate) fn show<T: Drop, R: Wait>(
 ) -> (Copies<T>, Result<(), NoMemory>)
     requires { writer.desk.shown.value.told.seen.book ≡ next.seen.book }
     ensures { MatchResult result.1
-        (λ _. IsOfShelf next.seen.book result.0)
-        (λ _. IsOfShelf next.seen.book writer → IsOfShelf next.seen.book result.0) }
+        (λ _. Shows next.seen.book next.seen.log result.0)
+        (λ _. (result.0.desk.shown.value ≡ writer.desk.shown.value) × (view result.0.desk.place ≡ view writer.desk.place)) }
 {
     let Ok(()) = writer.append(next) else {
         return (writer, Err(NoMemory));
@@ -73,8 +74,8 @@ pub(crate) fn hand_out<T: Drop>(
     writer: &mut Copies<T>,
     last: &Told<T>,
 ) -> Result<Reader<T>, AllocError>
-    requires { IsOfShelf last.now.seen.book writer.old }
-    ensures writer { IsOfShelf last.now.seen.book writer.new }
+    requires { Shows last.now.seen.book last.now.seen.log writer.old }
+    ensures writer { Shows last.now.seen.book last.now.seen.log writer.new }
     ensures reader { IfOk result (λ r. (r.shelf ≡ last.now.seen.book) × (r.list ≡ last.now.seen.log)) }
 {
     let kept = last.again()?;

@@ -2,7 +2,7 @@
 ghost use Rattle.std.specs.Prelude.{◌≡◌, ◌≤◌, [], ◌∷◌, All, IfOk, length};
 ghost use Rattle.std.specs.Arc.{arc_value};
 ghost use Rattle.plan_shelf.specs.History.{head_of};
-ghost use Rattle.plan_shelf.specs.Tied.{IsOfShelf, IsTied};
+ghost use Rattle.plan_shelf.specs.Tied.{Shows, IsTied};
 
 use crate::copies::{Copies, copies, hand_out};
 use crate::editor::{Editor, Publisher};
@@ -73,8 +73,8 @@ fn hand_out_all<T: Drop>(
     last: &Told<T>,
     readers: u8,
 ) -> Result<Vec<Reader<T>>, NoMemory>
-    requires { IsOfShelf last.now.seen.book writer.old }
-    ensures writer { IsOfShelf last.now.seen.book writer.new }
+    requires { Shows last.now.seen.book last.now.seen.log writer.old }
+    ensures writer { Shows last.now.seen.book last.now.seen.log writer.new }
     ensures readers { IfOk result (λ v.
         All (λ r. (r.shelf ≡ last.now.seen.book) × (r.list ≡ last.now.seen.log)) v.items) }
     ensures most { IfOk result (λ v. length v.items ≤ readers) }
