@@ -21,3 +21,4 @@ pub mod Terms
 pub mod Spans
 pub mod EdgeNumbers
 pub mod Apart
+mod BoxOfSpots

@@ -1,12 +1,12 @@
-ghost use Rattle.std.specs.Prelude.{◌<◌, ◌↔◌, length, All, IsTrue};
-ghost use Rattle.plan_convex.specs.Boxes.{AreApart, Encloses, IsLeftOrBelow};
+ghost use Rattle.std.specs.Prelude.{◌<◌, ◌↔◌, length, IsTrue};
+ghost use Rattle.plan_convex.specs.Boxes.{AreApart, Encloses, IsBox, IsLeftOrBelow};
 
 use plan_grid::{Frame, Spot};
 
-/// The box of the spots, of which there is one at least.
+/// The bounding box of the spots, of which there is one at least.
 pub fn bounds(spots: &[Spot]) -> Frame
     requires { 0 < length spots.now }
-    ensures { All (Encloses result) spots.now }
+    ensures { IsBox spots.now result }
 {
     let mut low = spots[0];
     let mut high = spots[0];
@@ -17,7 +17,7 @@ pub fn bounds(spots: &[Spot]) -> Frame
     Frame { low, high }
 }
 
-/// The box of the segment from `a` to `b`.
+/// The bounding box of the segment from `a` to `b`.
 pub fn edge_bounds(a: Spot, b: Spot) -> Frame
     ensures first { Encloses result a }
     ensures second { Encloses result b }

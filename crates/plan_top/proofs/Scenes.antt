@@ -2,5 +2,3 @@
 pub mod Leaving
 pub mod Rooms
 pub mod Sums
-pub mod Bounds
-pub mod Apart

@@ -3,7 +3,6 @@ pub mod Status
 pub mod Command
 pub mod Lines
 pub mod Outcome
-pub mod Box
 pub mod Scene
 pub mod Check
 pub mod Laws

@@ -2,7 +2,6 @@
 #![tactic(auto)]
 
 mod answer;
-mod bounding_box;
 mod check;
 mod command;
 mod fault;

@@ -7,9 +7,8 @@ ghost use Rattle.plan_wire.specs.First.{obstacle_seen};
 ghost use Rattle.plan_wire.specs.Fits.{IsFrame};
 ghost use Rattle.plan_top.specs.Scene.{IsRoom, IsSumOf, IsSceneOf};
 
-use crate::bounding_box::bounding_box;
 use crate::sum::Sum;
-use plan_convex::sum;
+use plan_convex::{bounds, sum};
 use plan_grid::{Frame, Spot, counterclockwise};
 use plan_wire::FirstShape;
 use std::alloc::{AllocError, Global};
@@ -52,7 +51,7 @@ fn room(frame: Frame, robot: [Spot; 3]) -> Frame
     requires robot { IsTriangle robot }
     ensures { IsRoom (spots_seen robot) (frame_seen frame) (frame_seen result) }
 {
-    let bounds = bounding_box(&robot);
+    let bounds = bounds(&robot);
     Frame {
         low: frame.low.minus(bounds.low),
         high: frame.high.minus(bounds.high),

@@ -1,11 +1,9 @@
 ghost use Rattle.std.specs.Prelude.{◌≡◌, ◌↔◌, IsTrue};
 ghost use Rattle.plan_grid.specs.Spot.{spots_seen, edge_seen, IsWithin};
 ghost use Rattle.plan_spec.specs.Polygon.{Inside};
-ghost use Rattle.plan_top.specs.Box.{AreApart, Encloses, IsLeftOrBelow};
 ghost use Rattle.plan_spec.specs.Segment.{AnyOn};
 
-use crate::bounding_box::bounding_box;
-use plan_convex::Convex;
+use plan_convex::{Convex, are_apart, bounds, edge_bounds};
 use plan_grid::{Frame, Point, Spot};
 use std::marker::Model;
 
@@ -19,7 +17,7 @@ pub struct Sum {
 impl Model for Sum {
     ghost use Rattle.std.specs.Prelude.{List};
     ghost use Rattle.plan_grid.specs.declared.spot.Spot.{Spot};
-    ghost use Rattle.plan_top.specs.Box.{IsBox};
+    ghost use Rattle.plan_convex.specs.Boxes.{IsBox};
 
     ghost Value = { List Spot };
 
@@ -33,7 +31,7 @@ impl Sum {
     pub fn of(polygon: Convex) -> Sum
         ensures { result ≡ polygon }
     {
-        let bounds = bounding_box(polygon.spots());
+        let bounds = bounds(polygon.spots());
         Sum { polygon, bounds }
     }
 
@@ -46,34 +44,9 @@ impl Sum {
         ensures { IsTrue result ↔ AnyOn (Inside (spots_seen self.now)) (edge_seen a b) }
     {
         prove!(self.polygon.spots().len() >= 3);
-        if are_apart(span(a, b), self.bounds) {
+        if are_apart(edge_bounds(a, b), self.bounds) {
             return false;
         }
         self.polygon.meets(&Point::of(a), &Point::of(b))
     }
-}
-
-// The box of the segment from `a` to `b`.
-fn span(a: Spot, b: Spot) -> Frame
-    ensures first { Encloses result a }
-    ensures second { Encloses result b }
-{
-    Frame {
-        low: a.least(b),
-        high: a.greatest(b),
-    }
-}
-
-// Whether one of the boxes is strictly beyond a side of the other.
-fn are_apart(f: Frame, g: Frame) -> bool
-    ensures { IsTrue result ↔ AreApart f g }
-{
-    is_left_or_below(f.high, g.low) || is_left_or_below(g.high, f.low)
-}
-
-// Whether `p` is strictly left of `q`, or strictly below it.
-fn is_left_or_below(p: Spot, q: Spot) -> bool
-    ensures { IsTrue result ↔ IsLeftOrBelow p q }
-{
-    p.x < q.x || p.y < q.y
 }

@@ -10,7 +10,7 @@ use Rattle.plan_grid.specs.declared.spot.Spot.{Spot}
 use Rattle.plan_grid.specs.Spot.{spot_seen, spots_seen, way, IsWithin}
 use Rattle.plan_grid.specs.Frame.{frame_seen}
 use Rattle.plan_grid.specs.Triangle.{IsTriangle}
-use Rattle.plan_top.specs.Box.{IsBox}
+use Rattle.plan_convex.specs.Boxes.{IsBox}
 use Rattle.plan_top.specs.Scene.{IsRoom}
 use Rattle.plan_top.proofs.Scenes.Leaving as L
 use Rattle.plan_top.proofs.Scenes.Leaving.{leaves}

@@ -1,35 +1,13 @@
 -- The box of the spots so far, made larger for one more, is the box of the spots with it.
-use Rattle.std.proofs.Common.{◌≡◌, ◌⊎◌, inl, inr, ℕ, ℤ, ◌+◌, ◌<◌, ◌≤◌, ◌≤ℤ◌, Bool, true, false, cond, int_lt, List, length, get_or, All, Any, below_more, refl, sym, ◌∙◌, subst, arith}
+use Rattle.std.proofs.Common.{◌≡◌, ◌⊎◌, inl, inr, ℕ, ℤ, ◌+◌, ◌<◌, ◌≤◌, Bool, true, false, cond, int_lt, List, length, get_or, All, Any, below_more, refl, sym, ◌∙◌, subst, arith}
 use Rattle.std.specs.Int.{int_min, int_max}
-use Rattle.std.proofs.lemmas.Int.{ints, int_min_is, int_max_is}
 use Rattle.std.proofs.lemmas.List.{get_or_default}
-use Rattle.plan_exact.proofs.Laws.{linear}
 use Rattle.plan_plane.proofs.Lists.{any_weaker}
 use Rattle.plan_grid.specs.declared.frame.Frame.{Frame}
 use Rattle.plan_grid.specs.declared.spot.Spot.{Spot}
-use Rattle.plan_grid.specs.Spot.{least, greatest}
 use Rattle.plan_grid.proofs.Spots.{origin, corner}
-use Rattle.plan_top.specs.Box.{Encloses, IsBox}
-
--- ---- the box with one more spot
-abbrev grown : Frame → Spot → Frame
-grown box s = record { low = least box.low s; high = greatest box.high s }
-
-still : (box : Frame) (s r : Spot) → Encloses box r → Encloses (grown box s) r
-still box s r e = record {
-  left = omega (arith, ints, int_min_is box.low.x s.x, e.left);
-  right = omega (arith, ints, int_max_is box.high.x s.x, e.right);
-  below = omega (arith, ints, int_min_is box.low.y s.y, e.below);
-  above = omega (arith, ints, int_max_is box.high.y s.y, e.above);
-}
-
-pub encloses_new : (box : Frame) (s : Spot) → Encloses (grown box s) s
-encloses_new box s = record {
-  left = omega (arith, ints, int_min_is box.low.x s.x);
-  right = omega (arith, ints, int_max_is box.high.x s.x);
-  below = omega (arith, ints, int_min_is box.low.y s.y);
-  above = omega (arith, ints, int_max_is box.high.y s.y);
-}
+use Rattle.plan_convex.specs.Boxes.{Encloses, IsBox}
+use Rattle.plan_convex.proofs.Apart.{grown, still_enclosed, now_enclosed}
 
 min_of_two : (a b : ℤ) → (a ≡ int_min a b) ⊎ (b ≡ int_min a b)
 min_of_two a b = by (int_lt b a)
@@ -67,12 +45,11 @@ first_box spots some = record {
 }
 
 pub next_box : (spots : List Spot) (i : ℕ) (low high : Spot) → i < length spots → IsBoxBefore spots i (record { low = low; high = high })
-    → IsBoxBefore spots (i + 1) (record { low = least low (corner spots i); high = greatest high (corner spots i) })
+    → IsBoxBefore spots (i + 1) (grown low high (corner spots i))
 next_box spots i low high within b =
     let s = corner spots i in
-    let box : Frame = record { low = low; high = high } in
     record {
-      encloses = below_more (λ k. Encloses (grown box s) (corner spots k)) i (λ k below. still box s (corner spots k) (b.encloses k below)) (encloses_new box s);
+      encloses = below_more (λ k. Encloses (grown low high s) (corner spots k)) i (λ k below. still_enclosed low high s (corner spots k) (b.encloses k below)) (now_enclosed low high s);
       leftmost = by (λ r. r.x) low.x (int_min low.x s.x) b.leftmost (min_of_two low.x s.x);
       rightmost = by (λ r. r.x) high.x (int_max high.x s.x) b.rightmost (max_of_two high.x s.x);
       lowest = by (λ r. r.y) low.y (int_min low.y s.y) b.lowest (min_of_two low.y s.y);
