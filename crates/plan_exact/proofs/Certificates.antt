@@ -1,4 +1,4 @@
--- Inequalities between polynomials, by certificates: a fact known of expressions, made of others by sums and products, gives another as soon as the two are one polynomial, up to a positive factor. Nothing cites `absurd_by` yet: it is stock for boundaries.
+-- Inequalities between polynomials, by certificates: a fact known of expressions, made of others by sums and products, gives another as soon as the two are one polynomial, up to a positive factor.
 use Rattle.std.proofs.Common.{◌≡◌, ℤ, pos, ◌-ℤ◌, ◌*ℤ◌, ◌≤ℤ◌, ◌<ℤ◌, T, List, sym, ap, ◌∙◌, subst, arith}
 use Rattle.std.proofs.lemmas.Int.{ints}
 use Rattle.plan_exact.specs.Expr.{Expr, con, ◌⊕◌, ◌⊖◌, ◌⊗◌, eval, same}

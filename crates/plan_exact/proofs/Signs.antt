@@ -1,5 +1,4 @@
 -- The signs of products over ℤ. `omega (arith, linear)` takes a product for an unknown: hand it these lemmas' facts.
--- Those that nothing cites yet (`mul_nonpos`, `square_pos`, `lt_of_mul`) are stock for boundaries and triangulations.
 use Rattle.std.proofs.Common.{◌≡◌, ◌⊎◌, inl, inr, ℕ, zero, suc, ℤ, pos, negsuc, ◌*◌, ◌<◌, ◌-ℤ◌, ◌+ℤ◌, ◌*ℤ◌, neg_ℤ, ◌≤ℤ◌, ◌<ℤ◌, refl, ap, ◌∙◌, arith}
 use Rattle.std.proofs.lemmas.Int.{ints}
 use Rattle.plan_exact.specs.Sign.{Sign, is_negative, is_zero, is_positive, Order, is_less, is_equal, is_greater}
@@ -37,6 +36,18 @@ le_or_ge a b = by (order_of a b)
 
 pub le_of_lt : {a b : ℤ} → a <ℤ b → a ≤ℤ b
 le_of_lt h = omega (arith, linear)
+
+pub le_of_eq : {a b : ℤ} → a ≡ b → a ≤ℤ b
+le_of_eq e = omega (arith, linear)
+
+-- what is not negative and not 0 is positive
+pub pos_of_nonneg : {a : ℤ} → pos 0 ≤ℤ a → ¬ (a ≡ pos 0) → pos 0 <ℤ a
+pos_of_nonneg {a} h apart = by (sign_of a)
+  where
+    by : Sign a → pos 0 <ℤ a
+    by (is_positive p) = p
+    by (is_zero e) = absurd (apart e)
+    by (is_negative n) = absurd (omega (arith, linear))
 
 -- ---- signs of a product
 pub mul_nonneg : {a b : ℤ} → pos 0 ≤ℤ a → pos 0 ≤ℤ b → pos 0 ≤ℤ (a *ℤ b)
@@ -104,6 +115,10 @@ pos_of_mul {a} {b} h k = by (sign_of b)
     by (is_positive p) = p
     by (is_zero e) = absurd (omega (arith, linear, ap (λ y. a *ℤ y) e, mul_zero a))
     by (is_negative n) = absurd (omega (arith, linear, mul_pos_neg h n))
+
+-- the factor that is known is not negative, and so it is positive
+pub pos_of_pos_mul : (a b : ℤ) → pos 0 ≤ℤ a → pos 0 <ℤ (a *ℤ b) → pos 0 <ℤ a
+pos_of_pos_mul a b h k = pos_of_nonneg h (λ e. omega (arith, linear, ap (λ y. y *ℤ b) e, zero_mul b))
 
 pub nonpos_of_mul : {a b : ℤ} → pos 0 <ℤ a → (a *ℤ b) ≤ℤ pos 0 → b ≤ℤ pos 0
 nonpos_of_mul {a} {b} h k =

@@ -1,5 +1,5 @@
--- The laws of `dot`, `cross` and `det`. Those that nothing cites yet (`dot_comm`, `det_same`, `det_combination_3`, `four_dot`,
--- `four_vectors`) are stock for boundaries, slabs and triangulations.
+-- The laws of `dot`, `cross` and `det`. Those that nothing cites yet (`dot_comm`, `four_dot`, `four_vectors`) are stock for boundaries,
+-- rings and triangulations.
 use Rattle.std.proofs.Common.{◌≡◌, ℤ, pos, ◌+ℤ◌, ◌-ℤ◌, ◌*ℤ◌, neg_ℤ, [], ◌∷◌}
 use Rattle.plan_exact.specs.Expr.{◌⊕◌, ◌⊖◌, ◌⊗◌, neg}
 use Rattle.plan_exact.specs.Vectors.{Vector, sum, difference, opposite, scaled, dot, cross, det, env}

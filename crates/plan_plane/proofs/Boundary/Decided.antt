@@ -6,28 +6,12 @@ use Rattle.plan_exact.proofs.Signs.{le_or_lt}
 use Rattle.plan_spec.specs.Vector.{Vector, turn}
 use Rattle.plan_spec.specs.Polygon.{OnOrLeft, Inside, edges}
 use Rattle.plan_spec.specs.Frame.{Frame, OnOrBeyond}
-use Rattle.plan_plane.proofs.Segment.Decided.{Decided, decided_by}
+use Rattle.plan_plane.proofs.Segment.Decided.{Decided, decided_by, both_decided, either_decided, le_decided}
 use Rattle.plan_spec.specs.Boundary.{IsClearOf}
-
-le_decided : (x y : ℤ) → Decided (x ≤ℤ y)
-le_decided x y = elim (le_or_lt x y) [
-  | inl h ↦ inl h
-  | inr h ↦ inr (λ k. omega (arith, linear))
-]
 
 not_decided : {P : Type 0} → Decided P → Decided (¬ P)
 not_decided (inl p) = inr (λ n. n p)
 not_decided (inr n) = inl n
-
-either_decided : {P Q : Type 0} → Decided P → Decided Q → Decided (P ⊎ Q)
-either_decided (inl p) q = inl (inl p)
-either_decided (inr n) (inl q) = inl (inr q)
-either_decided (inr n) (inr m) = inr (λ h. ⊎_elim n m h)
-
-both_decided : {P Q : Type 0} → Decided P → Decided Q → Decided (P × Q)
-both_decided (inl p) (inl q) = inl (p, q)
-both_decided (inl p) (inr n) = inr (λ h. n h.1)
-both_decided (inr n) q = inr (λ h. n h.0)
 
 pub all_decided : {X : Type 0} (P : X → Type 0) → ((x : X) → Decided (P x)) → (xs : List X) → Decided (All P xs)
 all_decided P decide [] = inl (All-nil P)

@@ -8,7 +8,7 @@ use Rattle.plan_exact.specs.Formal.{A, B, C, D}
 use Rattle.plan_exact.proofs.Laws.{linear}
 use Rattle.plan_exact.proofs.RingVectors.{ring_vectors}
 use Rattle.plan_exact.proofs.Certificates.{le_from, lt_from}
-use Rattle.plan_exact.proofs.Signs.{signs, sign_of, zero_of_mul_left, pos_of_mul, neg_nonneg, le_of_lt}
+use Rattle.plan_exact.proofs.Signs.{pos_of_pos_mul, signs, sign_of, zero_of_mul_left, pos_of_mul, neg_nonneg, le_of_lt}
 use Rattle.plan_exact.proofs.Vectors.{det_swapped}
 use Rattle.plan_spec.specs.Vector.{Vector, IsPoint, LeX, LtX, turn}
 use Rattle.plan_spec.specs.Segment.{On, segment, Common}
@@ -36,22 +36,13 @@ common_across c d u v hu hv run cu ud cv vd hi lo =
     let h2 : pos 0 ≤ℤ turn u v d = le_from (env [] (c ∷ d ∷ u ∷ v ∷ [])) (formal_right A B) (F.det A B C ⊗ formal_right D B ⊕ neg (F.det A B D) ⊗ formal_right C B) F.zero (F.det C D B) tt r (search signs) in
     common_by_sides u v c d h1 h2 (le_of_lt hi) (le_of_lt lo) (search signs)
 
--- a factor that is not negative, of a positive product
-pos_left : (x y : ℤ) → pos 0 ≤ℤ x → pos 0 <ℤ (x *ℤ y) → pos 0 <ℤ x
-pos_left x y h k = by (sign_of x)
-  where
-    by : Sign x → pos 0 <ℤ x
-    by (is_positive p) = p
-    by (is_negative n) = absurd (omega (arith, linear))
-    by (is_zero e) = absurd (omega (arith, linear, zero_of_mul_left x y e))
-
 -- p in the range of a b, and b in that of p q: p is below a b, and b below p q
 common_below : (a b p q : Vector) → IsPoint a → IsPoint b → LtX a b → LtX p q → LeX a p → LeX p b → LeX b q → turn a b p <ℤ pos 0 → turn p q b <ℤ pos 0 → Common (segment a b) (segment p q)
 common_below a b p q ha hb ab pq ap pb bq h k =
     let xs = env [] (a ∷ b ∷ p ∷ q ∷ []) in
     let m : pos 0 <ℤ (right p b *ℤ turn a b q) = lt_from xs (con (pos 1)) (neg (F.det A B C) ⊗ formal_right B D ⊕ neg (F.det C D B) ⊗ formal_right A B) F.zero (formal_right C B ⊗ F.det A B D) tt (search signs) (search signs) in
     let n : pos 0 ≤ℤ right p b = search signs in
-    let r = pos_left _ _ n m in
+    let r = pos_of_pos_mul _ _ n m in
     let s : pos 0 <ℤ turn p q a = lt_from xs (formal_right C B) (neg (F.det A B C) ⊗ formal_right C D ⊕ neg (F.det C D B) ⊗ formal_right A C) F.zero (F.det C D A) tt r (search signs) in
     let t = pos_of_mul r m in
     common_by_sides a b p q (le_of_lt h) (le_of_lt t) (le_of_lt s) (le_of_lt k) (search signs)
@@ -62,7 +53,7 @@ common_above a b p q ha hb ab pq ap pb bq h k =
     let xs = env [] (a ∷ b ∷ p ∷ q ∷ []) in
     let m : pos 0 <ℤ (right p b *ℤ turn b a q) = lt_from xs (con (pos 1)) (F.det A B C ⊗ formal_right B D ⊕ F.det C D B ⊗ formal_right A B) F.zero (formal_right C B ⊗ F.det B A D) tt (search signs) (search signs) in
     let n : pos 0 ≤ℤ right p b = search signs in
-    let r = pos_left _ _ n m in
+    let r = pos_of_pos_mul _ _ n m in
     let s : pos 0 <ℤ turn q p a = lt_from xs (formal_right C B) (F.det A B C ⊗ formal_right C D ⊕ F.det C D B ⊗ formal_right A C) F.zero (F.det D C A) tt r (search signs) in
     let t = pos_of_mul r m in
     let left : turn a b q ≤ℤ pos 0 = omega (arith, linear, det_swapped a b q) in

@@ -1,5 +1,5 @@
 -- A triangle holds its corners, and a point of it on the line of a side is on the side: its weight at the third corner is 0.
-use Rattle.std.proofs.Common.{◌≡◌, ℤ, pos, ◌≤ℤ◌, arith, ◌<ℤ◌, [], ◌∷◌}
+use Rattle.std.proofs.Common.{sym, ◌≡◌, ℤ, pos, ◌≤ℤ◌, arith, ◌<ℤ◌, [], ◌∷◌}
 use Rattle.plan_exact.specs.Expr.{con, ◌⊕◌, ◌⊗◌}
 use Rattle.plan_exact.specs.Formal.{A, B, C, D}
 use Rattle.plan_exact.specs.Formal as F
@@ -7,25 +7,22 @@ use Rattle.plan_exact.specs.Vectors.{env}
 use Rattle.plan_exact.proofs.Certificates.{eq_from}
 use Rattle.plan_exact.proofs.Laws.{linear}
 use Rattle.plan_exact.proofs.RingVectors.{vector_path}
-use Rattle.plan_exact.proofs.Signs.{le_of_lt, signs, zeros}
+use Rattle.plan_exact.proofs.Signs.{le_of_eq, le_of_lt, signs, zeros}
 use Rattle.plan_exact.proofs.Vectors.{cross_on_left, cross_on_right, det_turned}
 use Rattle.plan_spec.specs.Polygon.{Inside}
 use Rattle.plan_spec.specs.Vector.{Vector, turn}
 use Rattle.plan_plane.proofs.Polygon.Triangle.{held}
 use Rattle.plan_plane.proofs.Segment.Between.{Between}
 
-nonneg : {n : ℤ} → n ≡ pos 0 → pos 0 ≤ℤ n
-nonneg e = omega (arith, linear)
-
 -- ---- a triangle holds its corners
 pub first_inside : (a b c : Vector) → pos 0 <ℤ turn a b c → Inside (a ∷ b ∷ c ∷ []) a
-first_inside a b c h = held a b c a (nonneg (cross_on_left a b)) (omega (arith, linear, det_turned a b c)) (nonneg (cross_on_right c a))
+first_inside a b c h = held a b c a (le_of_eq (sym (cross_on_left a b))) (omega (arith, linear, det_turned a b c)) (le_of_eq (sym (cross_on_right c a)))
 
 pub second_inside : (a b c : Vector) → pos 0 <ℤ turn a b c → Inside (a ∷ b ∷ c ∷ []) b
-second_inside a b c h = held a b c b (nonneg (cross_on_right a b)) (nonneg (cross_on_left b c)) (omega (arith, linear, det_turned a b c, det_turned b c a))
+second_inside a b c h = held a b c b (le_of_eq (sym (cross_on_right a b))) (le_of_eq (sym (cross_on_left b c))) (omega (arith, linear, det_turned a b c, det_turned b c a))
 
 pub third_inside : (a b c : Vector) → pos 0 <ℤ turn a b c → Inside (a ∷ b ∷ c ∷ []) c
-third_inside a b c h = held a b c c (le_of_lt h) (nonneg (cross_on_right b c)) (nonneg (cross_on_left c a))
+third_inside a b c h = held a b c c (le_of_lt h) (le_of_eq (sym (cross_on_right b c))) (le_of_eq (sym (cross_on_left c a)))
 
 -- ---- on the sides of the triangle of v, w and u
 pub on_first : (v w u c : Vector) → pos 0 <ℤ turn u v w → turn v w c ≡ pos 0 → pos 0 ≤ℤ turn w u c → pos 0 ≤ℤ turn u v c → Between v w c

@@ -1,5 +1,5 @@
 -- A point held by a triangle is a combination of the corners with weights that are not negative, so what a line says of all three corners it says of the point.
-use Rattle.std.proofs.Common.{◌≡◌, ℤ, zero, suc, pos, ◌+ℤ◌, ◌*ℤ◌, ◌≤ℤ◌, ◌<ℤ◌, [], ◌∷◌, Bool, true, false, cond, int_lt, refl, ap, ◌∙◌, arith}
+use Rattle.std.proofs.Common.{sym, ◌≡◌, ℤ, zero, suc, pos, ◌+ℤ◌, ◌*ℤ◌, ◌≤ℤ◌, ◌<ℤ◌, [], ◌∷◌, Bool, true, false, cond, int_lt, refl, ap, ◌∙◌, arith}
 use Rattle.plan_exact.specs.Expr.{◌⊕◌, ◌⊗◌}
 use Rattle.plan_exact.specs.Sign.{Order, is_less, is_equal, is_greater}
 use Rattle.plan_exact.specs.Vectors.{sum, scaled, dot, cross, env}
@@ -8,7 +8,7 @@ use Rattle.plan_exact.specs.Formal.{A, B, C, D, J, K, L}
 use Rattle.plan_exact.proofs.Laws.{zero_mul, linear}
 use Rattle.plan_exact.proofs.Ring.{ring}
 use Rattle.plan_exact.proofs.RingVectors.{ring_vectors}
-use Rattle.plan_exact.proofs.Signs.{mul_nonneg, mul_pos, nonneg_of_mul, pos_of_mul, order_of, le_of_lt}
+use Rattle.plan_exact.proofs.Signs.{le_of_eq, mul_nonneg, mul_pos, nonneg_of_mul, pos_of_mul, order_of, le_of_lt}
 use Rattle.plan_exact.proofs.Tests.{lt_from_true, le_from_false}
 use Rattle.plan_exact.proofs.Vectors.{cross_on_left, cross_on_right, det_turned, det_swapped_right}
 use Rattle.plan_spec.specs.Vector.{Vector, IsPoint, turn}
@@ -97,12 +97,9 @@ pos_at {a} {b} {c} {z} hz m l ha hb hc = pos_of_mul m.scale_positive (by (order_
 pub inside : {a b c z : Vector} → pos 0 <ℤ turn a b c → Among a b c z → Inside (a ∷ b ∷ c ∷ []) z
 inside {a} {b} {c} {z} h m =
     held a b c z
-    (nonneg_at m (cross a b) (from (cross_on_left a b)) (from (cross_on_right a b)) (le_of_lt h))
-    (nonneg_at m (cross b c) (omega (arith, linear, det_turned a b c)) (from (cross_on_left b c)) (from (cross_on_right b c)))
-    (nonneg_at m (cross c a) (from (cross_on_right c a)) (omega (arith, linear, det_turned a b c, det_turned b c a)) (from (cross_on_left c a)))
-  where
-    from : {n : ℤ} → n ≡ pos 0 → pos 0 ≤ℤ n
-    from e = omega (arith, linear)
+    (nonneg_at m (cross a b) (le_of_eq (sym (cross_on_left a b))) (le_of_eq (sym (cross_on_right a b))) (le_of_lt h))
+    (nonneg_at m (cross b c) (omega (arith, linear, det_turned a b c)) (le_of_eq (sym (cross_on_left b c))) (le_of_eq (sym (cross_on_right b c))))
+    (nonneg_at m (cross c a) (le_of_eq (sym (cross_on_right c a))) (omega (arith, linear, det_turned a b c, det_turned b c a)) (le_of_eq (sym (cross_on_left c a))))
 
 -- ---- a triangle in either direction of turning
 pub turned : {a b c z : Vector} → Among a c b z → Among a b c z

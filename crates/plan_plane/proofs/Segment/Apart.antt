@@ -4,7 +4,7 @@ use Rattle.std.proofs.lemmas.List.Elements.{All-head, All-tail, All-nil, All-con
 use Rattle.plan_exact.specs.Sign.{Sign, is_negative, is_zero, is_positive}
 use Rattle.plan_exact.specs.Vectors.{dot, opposite, cross}
 use Rattle.plan_exact.proofs.Laws.{linear}
-use Rattle.plan_exact.proofs.Signs.{le_or_lt, sign_of}
+use Rattle.plan_exact.proofs.Signs.{le_of_eq, le_or_lt, sign_of}
 use Rattle.plan_exact.proofs.Vectors.{dot_opposite, cross_on_left, cross_on_right}
 use Rattle.plan_spec.specs.Segment.{Segment, On, HasPoints, segment, Common}
 use Rattle.plan_spec.specs.Vector.{Vector, IsPoint, Same, turn}
@@ -21,12 +21,9 @@ pub record Apart (s : Segment) (z : Vector) : Type 0 where
   pub first : dot line s.a ≤ℤ pos 0
   pub second : dot line s.b ≤ℤ pos 0
 
-nonpos : {n : ℤ} → n ≡ pos 0 → n ≤ℤ pos 0
-nonpos e = omega (arith, linear)
-
 -- a is between z and b, and is not z
 beyond : (a b z : Vector) → IsPoint a → IsPoint z → ¬ (Same z a) → Between z b a → (pos 0 <ℤ dot (facing a z) z) × (dot (facing a z) a ≤ℤ pos 0) × (dot (facing a z) b ≤ℤ pos 0)
-beyond a b z ha hz apart m = (here, nonpos (facing_from a z), by (le_or_lt (pos 0) (neg_ℤ (dot (facing a z) b))))
+beyond a b z ha hz apart m = (here, le_of_eq (facing_from a z), by (le_or_lt (pos 0) (neg_ℤ (dot (facing a z) b))))
   where
     here : pos 0 <ℤ dot (facing a z) z
     here = facing_to a z (λ e. apart (Same-swapped a z e))
@@ -56,7 +53,7 @@ separated s z hs hz off = by (sign_of (turn s.a s.b z))
     in_line (third m) = absurd (off (on m))
 
     by : Sign (turn s.a s.b z) → Apart s z
-    by (is_positive h) = record { line = cross s.a s.b; at = h; first = nonpos (cross_on_left s.a s.b); second = nonpos (cross_on_right s.a s.b) }
+    by (is_positive h) = record { line = cross s.a s.b; at = h; first = le_of_eq (cross_on_left s.a s.b); second = le_of_eq (cross_on_right s.a s.b) }
     by (is_zero e) = in_line (middle s.a s.b z hs.0 hs.1 hz e)
     by (is_negative h) =
         let l = cross s.a s.b in

@@ -8,7 +8,7 @@ use Rattle.plan_exact.specs.Vectors.{sum, scaled, env, dot}
 use Rattle.plan_exact.proofs.Certificates.{eq_from}
 use Rattle.plan_exact.proofs.Laws.{linear}
 use Rattle.plan_exact.proofs.RingVectors.{ring_vectors}
-use Rattle.plan_exact.proofs.Signs.{zeros, order_of, mul_pos, mul_nonneg, pos_of_mul}
+use Rattle.plan_exact.proofs.Signs.{pos_of_nonneg, zeros, order_of, mul_pos, mul_nonneg, pos_of_mul}
 use Rattle.plan_spec.specs.Vector.{Vector, Same}
 use Rattle.plan_plane.proofs.Segment.Between.{Between, dot_between}
 
@@ -23,21 +23,13 @@ no_weight p q y k s t hk zero e =
       eq_from xs J (L ⊗ (B.y ⊗ A.w ⊖ A.y ⊗ B.w) ⊕ A.w ⊗ (J ⊗ C.y ⊖ (K ⊗ A.y ⊕ L ⊗ B.y)) ⊕ neg A.y ⊗ (J ⊗ C.w ⊖ (K ⊗ A.w ⊕ L ⊗ B.w))) (C.y ⊗ A.w) (A.y ⊗ C.w) tt hk (search zeros),
     )
 
-pos_weight : (n : ℤ) → pos 0 ≤ℤ n → ¬ (n ≡ pos 0) → pos 0 <ℤ n
-pos_weight n h apart = by (order_of (pos 0) n)
-  where
-    by : Order (pos 0) n → pos 0 <ℤ n
-    by (is_less k) = k
-    by (is_equal e) = absurd (apart (sym e))
-    by (is_greater k) = absurd (omega (arith, linear))
-
 pub second_weight : {p q y : Vector} (b : Between p q y) → ¬ (Same y p) → pos 0 <ℤ b.second
-second_weight {p} {q} {y} b apart = pos_weight b.second b.second_nonneg (λ e. apart (no_weight p q y b.scale b.first b.second b.scale_positive e b.is_sum))
+second_weight {p} {q} {y} b apart = pos_of_nonneg b.second_nonneg (λ e. apart (no_weight p q y b.scale b.first b.second b.scale_positive e b.is_sum))
 
 pub first_weight : {p q y : Vector} (b : Between p q y) → ¬ (Same y q) → pos 0 <ℤ b.first
 first_weight {p} {q} {y} b apart =
     let turned = ring_vectors (env (b.first ∷ b.second ∷ []) (p ∷ q ∷ [])) (F.sum (F.scaled J A) (F.scaled K B)) (F.sum (F.scaled K B) (F.scaled J A)) tt in
-    pos_weight b.first b.first_nonneg (λ e. apart (no_weight q p y b.scale b.second b.first b.scale_positive e (b.is_sum ∙ turned)))
+    pos_of_nonneg b.first_nonneg (λ e. apart (no_weight q p y b.scale b.second b.first b.scale_positive e (b.is_sum ∙ turned)))
 
 -- a covector that is not negative at the ends, and positive at one whose weight is
 pub pos_by_second : {p q y : Vector} (b : Between p q y) (l : Vector) → pos 0 <ℤ b.second → pos 0 ≤ℤ dot l p → pos 0 <ℤ dot l q → pos 0 <ℤ dot l y

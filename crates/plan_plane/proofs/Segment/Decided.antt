@@ -13,21 +13,21 @@ pub decided_by : {P Q : Type 0} → (P → Q) → (Q → P) → Decided P → De
 decided_by f g (inl p) = inl (f p)
 decided_by f g (inr n) = inr (λ q. n (g q))
 
-both : {P Q : Type 0} → Decided P → Decided Q → Decided (P × Q)
-both (inl p) (inl q) = inl (p, q)
-both (inl p) (inr n) = inr (λ h. n h.1)
-both (inr n) q = inr (λ h. n h.0)
+pub both_decided : {P Q : Type 0} → Decided P → Decided Q → Decided (P × Q)
+both_decided (inl p) (inl q) = inl (p, q)
+both_decided (inl p) (inr n) = inr (λ h. n h.1)
+both_decided (inr n) q = inr (λ h. n h.0)
 
-one_of : {P Q : Type 0} → Decided P → Decided Q → Decided (P ⊎ Q)
-one_of (inl p) q = inl (inl p)
-one_of (inr n) (inl q) = inl (inr q)
-one_of {P} {Q} (inr n) (inr m) = inr neither
+pub either_decided : {P Q : Type 0} → Decided P → Decided Q → Decided (P ⊎ Q)
+either_decided (inl p) q = inl (inl p)
+either_decided (inr n) (inl q) = inl (inr q)
+either_decided {P} {Q} (inr n) (inr m) = inr neither
   where
     neither : P ⊎ Q → ⊥
     neither (inl p) = n p
     neither (inr q) = m q
 
-le_decided : (x y : ℤ) → Decided (x ≤ℤ y)
+pub le_decided : (x y : ℤ) → Decided (x ≤ℤ y)
 le_decided x y = by (le_or_lt x y)
   where
     by : (x ≤ℤ y) ⊎ (y <ℤ x) → Decided (x ≤ℤ y)
@@ -44,9 +44,9 @@ eq_decided x y = by (order_of x y)
 
 between_decided : (a k z m b l : ℤ) → Decided ((((a *ℤ m) ≤ℤ (z *ℤ k)) × ((z *ℤ l) ≤ℤ (b *ℤ m))) ⊎ (((b *ℤ m) ≤ℤ (z *ℤ l)) × ((z *ℤ k) ≤ℤ (a *ℤ m))))
 between_decided a k z m b l =
-    one_of (both (le_decided (a *ℤ m) (z *ℤ k)) (le_decided (z *ℤ l) (b *ℤ m))) (both (le_decided (b *ℤ m) (z *ℤ l)) (le_decided (z *ℤ k) (a *ℤ m)))
+    either_decided (both_decided (le_decided (a *ℤ m) (z *ℤ k)) (le_decided (z *ℤ l) (b *ℤ m))) (both_decided (le_decided (b *ℤ m) (z *ℤ l)) (le_decided (z *ℤ k) (a *ℤ m)))
 
 pub on_decided : (s : Segment) (z : Vector) → Decided (On s z)
 on_decided s z =
     decided_by (λ h. record { in_line = h.0; within_x = h.1.0; within_y = h.1.1 }) (λ h. (h.in_line, (h.within_x, h.within_y)))
-    (both (eq_decided (turn s.a s.b z) (pos 0)) (both (between_decided s.a.x s.a.w z.x z.w s.b.x s.b.w) (between_decided s.a.y s.a.w z.y z.w s.b.y s.b.w)))
+    (both_decided (eq_decided (turn s.a s.b z) (pos 0)) (both_decided (between_decided s.a.x s.a.w z.x z.w s.b.x s.b.w) (between_decided s.a.y s.a.w z.y z.w s.b.y s.b.w)))

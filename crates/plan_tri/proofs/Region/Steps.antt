@@ -18,7 +18,7 @@ use Rattle.plan_spec.specs.Vector.{turn, IsPoint, Before, Vector}
 use Rattle.plan_plane.proofs.Lists.{any_here, all_right, all_left}
 use Rattle.plan_plane.proofs.Polygon.Corner.{polygon}
 use Rattle.plan_plane.proofs.Polygon.Cut.{part_one}
-use Rattle.plan_plane.proofs.Polygon.Triangle.{held}
+use Rattle.plan_plane.proofs.Polygon.Triangle.{held, inside_turned}
 use Rattle.plan_poly.proofs.EvenOdd.Triangle.{inside_from, from_inside}
 use Rattle.plan_poly.proofs.Least.Best.{IsBest, Found, best}
 use Rattle.plan_poly.proofs.Least.ByPlace.{from_least_is}
@@ -70,9 +70,6 @@ same_triangles (suc k) vs us e f = ap (from_corner (triangles_within k)) (e ∙ 
 abbrev triangle : Vector → Vector → Vector → Triangle
 triangle a b c = record { a = a; b = b; c = c }
 
-turned_inside : (a b c z : Vector) → Inside (a ∷ b ∷ c ∷ []) z → Inside (b ∷ c ∷ a ∷ []) z
-turned_inside a b c z h = let e = segment a b in held b c a z (h 1 e (omega arith)) (h 2 e (omega arith)) (h 0 e (omega arith))
-
 -- the three vertices from the last one on
 alone_from_u : (v w u : Vector) → IsPoint v → IsPoint w → IsPoint u → Before v w → Before v u → pos 0 <ℤ turn u v w → Triangulated (u ∷ v ∷ w ∷ []) (triangle v w u ∷ [])
 alone_from_u v w u hv hw hu bw bu left = record {
@@ -80,8 +77,8 @@ alone_from_u v w u hv hw hu bw bu left = record {
   least = All-cons (λ t. Before t.a t.b × Before t.a t.c) t [] (bw, bu) (All-nil (λ t. Before t.a t.b × Before t.a t.c));
   vertices = All-cons (λ t. Contains list t.a × Contains list t.b × Contains list t.c) t [] (itself 1 v (omega arith), itself 2 v (omega arith), itself 0 v (omega arith)) (All-nil (λ t. Contains list t.a × Contains list t.b × Contains list t.c));
   covered = All-cons S (segment u v) (segment v w ∷ segment w u ∷ []) (side (segment u v) (inr (inr refl))) (All-cons S (segment v w) (segment w u ∷ []) (side (segment v w) (inl refl)) (All-cons S (segment w u) [] (side (segment w u) (inr (inl refl))) (All-nil S)));
-  within = All-cons W t [] (λ z hz i. from_inside u v w z hz left (turned_inside w u v z (turned_inside v w u z i))) (All-nil W);
-  held = λ z hz m. any_here (λ t. Inside (corners t) z) t [] (turned_inside u v w z (inside_from u v w z hu hv hw hz left m));
+  within = All-cons W t [] (λ z hz i. from_inside u v w z hz left (inside_turned w u v z (inside_turned v w u z i))) (All-nil W);
+  held = λ z hz m. any_here (λ t. Inside (corners t) z) t [] (inside_turned u v w z (inside_from u v w z hu hv hw hz left m));
   count = refl;
 }
   where
