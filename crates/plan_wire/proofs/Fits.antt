@@ -1,5 +1,5 @@
 -- What is read keeps to its bounds: each definition tests what it gives, so a value that it gave has passed the test.
-use Rattle.std.proofs.Common.{◌≡◌, ◌≢◌, ◌≤◌, ◌<◌, ℕ, suc, ℤ, pos, negsuc, neg_ℤ, codes, int_le, int_lt, ◌<ℤ◌, unsigned_abs, Bool, true, false, ◌&&◌, not, List, [], ◌∷◌, length, map, All, Option, None, Some, IfSome, option_and_then, cond, refl, sym, ap, subst, ◌∙◌, arith, nat_le, is_none}
+use Rattle.std.proofs.Common.{◌≡◌, ◌≢◌, ◌≤◌, ◌<◌, ℕ, suc, ℤ, pos, negsuc, neg_ℤ, codes, int_le, int_lt, ◌<ℤ◌, unsigned_abs, Bool, true, false, ◌&&◌, not, List, [], ◌∷◌, length, map, All, Option, None, Some, IfSome, option_and_then, cond, refl, ap, subst, ◌∙◌, arith, nat_le, is_none}
 use Rattle.std.specs.Ordering.{int_eq}
 use Rattle.std.specs.Str.{is_utf8}
 use Rattle.std.proofs.lemmas.Bool.Decides.{Decides-int_eq}
@@ -11,18 +11,19 @@ use Rattle.std.proofs.lemmas.Option.{cond_some, same_Some, some_pair_parts, opti
 use Rattle.serde_json.specs.Data.{Data}
 use Rattle.serde_json.specs.Find.{as_i64, as_number, get}
 use Rattle.serde_json.specs.Read as json
-use Rattle.plan_spec.specs.Vector.{spot, turn}
+use Rattle.plan_spec.specs.Vector.{Vector, spot, turn}
 use Rattle.plan_spec.specs.Placement.{Scene}
+use Rattle.plan_grid.specs.declared.bounds.TheConstants.{MOST_CORNER, MOST_COORDINATE}
 use Rattle.plan_grid.specs.Spot.{spot_seen, IsWithin}
 use Rattle.plan_grid.specs.Frame.{frame_seen}
 use Rattle.plan_grid.specs.declared.frame.Frame.{Frame}
 use Rattle.plan_grid.specs.declared.spot.Spot.{Spot}
-use Rattle.plan_wire.specs.Document.{whole, within, member, natural, spot_at, spot_from, spot_of, is_triangle, shape_of, is_frame, frame_from, frame_of, query_from, query_of, point_from, point_of, obstacle_of, obstacles_of, differ, path_of, document_of, first_of, most_bytes, each, given, elements}
-use Rattle.plan_wire.proofs.Documents.{each_length}
+use Rattle.plan_wire.specs.Document.{whole, within, member, natural, spot_at, spot_from, spot_of, is_not_flat, shape_from, shape_of, frame_from, frame_of, query_from, query_of, point_from, point_of, obstacle_of, obstacles_of, differ, path_of, document_of, first_of, most_bytes, each, given, elements}
+use Rattle.plan_wire.proofs.Lists.{each_length}
 use Rattle.plan_wire.proofs.Lengths.{values, values_of_text, member_has_fewer, elements_are_few}
 use Rattle.plan_wire.specs.First.{obstacle_seen, document_seen}
 use Rattle.plan_wire.specs.Fits.{IsFrame, Fits}
-use Rattle.plan_grid.specs.Triangle.{area, IsTriangle}
+use Rattle.plan_grid.specs.Triangle.{IsTriangle}
 use Rattle.plan_wire.specs.declared.document.FirstDocument.{FirstDocument}
 use Rattle.plan_wire.specs.declared.document.FirstShape.{FirstShape}
 
@@ -37,6 +38,8 @@ passed test None a h = cc
 passed test (Some b) a h =
     let c = cond_some (test b) b a h in
     (ap Some c.1, rw (← c.1) c.0)
+
+-- ---- numbers and spots
 
 bounded : (limit : ℕ) (z : ℤ) → int_le (neg_ℤ (pos limit)) z ≡ true → int_le z (pos limit) ≡ true → unsigned_abs z ≤ limit
 bounded limit z low high = grind (arith, ints)
@@ -58,16 +61,18 @@ spot_bounded limit v w s read =
       y = whole_bounded limit w s.y (rw (← ap (λ p. p.y) is) y_read);
     }))
 
-pair_bounded : (items : List Data) (s : Spot) → spot_from items ≡ Some (spot_seen s) → IsWithin 1023 s
+pair_bounded : (items : List Data) (s : Spot) → spot_from items ≡ Some (spot_seen s) → IsWithin MOST_CORNER s
 unfolding spot_from
-pair_bounded (x ∷ y ∷ []) s read = spot_bounded 1023 x y s read
+pair_bounded (x ∷ y ∷ []) s read = spot_bounded MOST_CORNER x y s read
 pair_bounded [] s read = cc
 pair_bounded (x ∷ []) s read = cc
 pair_bounded (x ∷ y ∷ z ∷ rest) s read = cc
 
-corner_bounded : (v : Data) (s : Spot) → spot_of v ≡ Some (spot_seen s) → IsWithin 1023 s
+corner_bounded : (v : Data) (s : Spot) → spot_of v ≡ Some (spot_seen s) → IsWithin MOST_CORNER s
 unfolding spot_of
 corner_bounded v s read = option_and_then_some spot_from (elements v) (spot_seen s) read (λ items _ rest. pair_bounded items s rest)
+
+-- ---- lists
 
 -- what each value that is read keeps to, the list of them keeps to
 each_keeps : {X B : Type 0} (P : X → Type 0) (f : Data → Option B) (seen : X → B) → ((v : Data) (x : X) → f v ≡ Some (seen x) → P x) → (vs : List Data) (xs : List X) → each f vs ≡ Some (map seen xs) → All P xs
@@ -86,12 +91,7 @@ each_as_many f seen vs xs read =
     let same : IfSome (Some (map seen xs)) (λ ys. length ys ≡ length vs) = subst (λ o. IfSome o (λ ys. length ys ≡ length vs)) read (each_length f vs) in
     simp length-map at same
 
-three_spots : (spots : List Spot) → is_triangle (map spot_seen spots) ≡ true → length spots ≡ 3
-three_spots (a ∷ b ∷ c ∷ []) test = refl
-three_spots [] test = cc
-three_spots (a ∷ []) test = cc
-three_spots (a ∷ b ∷ []) test = cc
-three_spots (a ∷ b ∷ c ∷ d ∷ rest) test = cc
+-- ---- shapes
 
 not_in_line : (z : ℤ) → not (int_eq z (pos 0)) ≡ true → z ≢ pos 0
 not_in_line z test zero =
@@ -99,22 +99,45 @@ not_in_line z test zero =
     let both : not true ≡ true = rw flat at test in
     cc
 
-not_flat_spots : (spots : List Spot) → is_triangle (map spot_seen spots) ≡ true → area spots ≢ pos 0
-not_flat_spots (a ∷ b ∷ c ∷ []) test = not_in_line _ test
-not_flat_spots [] test = cc
-not_flat_spots (a ∷ []) test = cc
-not_flat_spots (a ∷ b ∷ []) test = cc
-not_flat_spots (a ∷ b ∷ c ∷ d ∷ rest) test = cc
+three_corners : (u v w : Data) (p q r : Vector) (spots : List Spot) → spot_of u ≡ Some p → spot_of v ≡ Some q → spot_of w ≡ Some r → turn p q r ≢ pos 0 → p ∷ q ∷ r ∷ [] ≡ map spot_seen spots → IsTriangle spots
+three_corners u v w p q r (a ∷ b ∷ c ∷ []) p_read q_read r_read turns is =
+    let is_p : p ≡ spot_seen a = cc in
+    let is_q : q ≡ spot_seen b = cc in
+    let is_r : r ≡ spot_seen c = cc in
+    let at_c = All-cons (IsWithin MOST_CORNER) c [] (corner_bounded w c (r_read ∙ ap Some is_r)) (All-nil (IsWithin MOST_CORNER)) in
+    let at_b = All-cons (IsWithin MOST_CORNER) b (c ∷ []) (corner_bounded v b (q_read ∙ ap Some is_q)) at_c in
+    record {
+      three = refl;
+      bounded = All-cons (IsWithin MOST_CORNER) a (b ∷ c ∷ []) (corner_bounded u a (p_read ∙ ap Some is_p)) at_b;
+      not_flat = rw (is_p, is_q, is_r) at turns;
+    }
+three_corners u v w p q r [] p_read q_read r_read turns is = cc
+three_corners u v w p q r (a ∷ []) p_read q_read r_read turns is = cc
+three_corners u v w p q r (a ∷ b ∷ []) p_read q_read r_read turns is = cc
+three_corners u v w p q r (a ∷ b ∷ c ∷ d ∷ rest) p_read q_read r_read turns is = cc
+
+shape_of_three : (u v w : Data) (spots : List Spot) → shape_from (u ∷ v ∷ w ∷ []) ≡ Some (map spot_seen spots) → IsTriangle spots
+unfolding shape_from
+shape_of_three u v w spots read =
+    option_and_then_some _ (spot_of u) (map spot_seen spots) read (λ p p_read after_first.
+    option_and_then_some _ (spot_of v) (map spot_seen spots) after_first (λ q q_read after_second.
+    option_and_then_some _ (spot_of w) (map spot_seen spots) after_second (λ r r_read test.
+    let passed = cond_some (is_not_flat p q r) (p ∷ q ∷ r ∷ []) (map spot_seen spots) test in
+    three_corners u v w p q r spots p_read q_read r_read (not_in_line _ passed.0) passed.1)))
+
+shape_list_kept : (items : List Data) (spots : List Spot) → shape_from items ≡ Some (map spot_seen spots) → IsTriangle spots
+unfolding shape_from
+shape_list_kept (u ∷ v ∷ w ∷ []) spots read = shape_of_three u v w spots read
+shape_list_kept [] spots read = cc
+shape_list_kept (u ∷ []) spots read = cc
+shape_list_kept (u ∷ v ∷ []) spots read = cc
+shape_list_kept (u ∷ v ∷ w ∷ x ∷ rest) spots read = cc
 
 shape_kept : (v : Data) (spots : List Spot) → shape_of v ≡ Some (map spot_seen spots) → IsTriangle spots
 unfolding shape_of
-shape_kept v spots read =
-    let p = passed is_triangle (option_and_then (each spot_of) (elements v)) (map spot_seen spots) read in
-    record {
-      three = three_spots spots p.1;
-      bounded = option_and_then_some (each spot_of) (elements v) (map spot_seen spots) p.0 (λ items _ rest. each_keeps (IsWithin 1023) spot_of spot_seen corner_bounded items spots rest);
-      not_flat = not_flat_spots spots p.1;
-    }
+shape_kept v spots read = option_and_then_some shape_from (elements v) (map spot_seen spots) read (λ items _ rest. shape_list_kept items spots rest)
+
+-- ---- frames
 
 below : (a b : ℤ) → int_lt a b ≡ true → a <ℤ b
 below a b test = grind (arith, ints)
@@ -122,15 +145,15 @@ below a b test = grind (arith, ints)
 frame_of_four : (x1 y1 x2 y2 : Data) (f : Frame) → frame_from (x1 ∷ y1 ∷ x2 ∷ y2 ∷ []) ≡ Some (frame_seen f) → IsFrame f
 unfolding frame_from
 frame_of_four x1 y1 x2 y2 f read =
-    option_and_then_some _ (spot_at 1023 x1 y1) (frame_seen f) read (λ low low_read rest.
-    option_and_then_some _ (spot_at 1023 x2 y2) (frame_seen f) rest (λ high high_read test.
+    option_and_then_some _ (spot_at MOST_CORNER x1 y1) (frame_seen f) read (λ low low_read rest.
+    option_and_then_some _ (spot_at MOST_CORNER x2 y2) (frame_seen f) rest (λ high high_read test.
     let c = cond_some (int_lt low.x high.x && int_lt low.y high.y) _ (frame_seen f) test in
     let tests = and_parts (int_lt low.x high.x) (int_lt low.y high.y) c.0 in
     let is_low : low ≡ spot_seen f.low = ap (λ g. g.low) c.1 in
     let is_high : high ≡ spot_seen f.high = ap (λ g. g.high) c.1 in
     record {
-      low = spot_bounded 1023 x1 y1 f.low (low_read ∙ ap Some is_low);
-      high = spot_bounded 1023 x2 y2 f.high (high_read ∙ ap Some is_high);
+      low = spot_bounded MOST_CORNER x1 y1 f.low (low_read ∙ ap Some is_low);
+      high = spot_bounded MOST_CORNER x2 y2 f.high (high_read ∙ ap Some is_high);
       wide = below f.low.x f.high.x (rw (is_low, is_high) at tests.0);
       tall = below f.low.y f.high.y (rw (is_low, is_high) at tests.1);
     }))
@@ -148,15 +171,17 @@ frame_kept : (v : Data) (f : Frame) → frame_of v ≡ Some (frame_seen f) → I
 unfolding frame_of
 frame_kept v f read = option_and_then_some frame_from (elements v) (frame_seen f) read (λ items _ rest. frame_list_kept items f rest)
 
-query_of_four : (sx sy gx gy : Data) (start goal : Spot) → query_from (sx ∷ sy ∷ gx ∷ gy ∷ []) ≡ Some (spot_seen start, spot_seen goal) → IsWithin 2046 start × IsWithin 2046 goal
+-- ---- queries
+
+query_of_four : (sx sy gx gy : Data) (start goal : Spot) → query_from (sx ∷ sy ∷ gx ∷ gy ∷ []) ≡ Some (spot_seen start, spot_seen goal) → IsWithin MOST_COORDINATE start × IsWithin MOST_COORDINATE goal
 unfolding query_from
 query_of_four sx sy gx gy start goal read =
-    option_and_then_some _ (spot_at 2046 sx sy) (spot_seen start, spot_seen goal) read (λ s s_read rest.
-    option_and_then_some _ (spot_at 2046 gx gy) (spot_seen start, spot_seen goal) rest (λ g g_read same.
+    option_and_then_some _ (spot_at MOST_COORDINATE sx sy) (spot_seen start, spot_seen goal) read (λ s s_read rest.
+    option_and_then_some _ (spot_at MOST_COORDINATE gx gy) (spot_seen start, spot_seen goal) rest (λ g g_read same.
     let parts = some_pair_parts s (spot_seen start) g (spot_seen goal) same in
-    (spot_bounded 2046 sx sy start (s_read ∙ ap Some parts.0), spot_bounded 2046 gx gy goal (g_read ∙ ap Some parts.1))))
+    (spot_bounded MOST_COORDINATE sx sy start (s_read ∙ ap Some parts.0), spot_bounded MOST_COORDINATE gx gy goal (g_read ∙ ap Some parts.1))))
 
-query_list_kept : (items : List Data) (start goal : Spot) → query_from items ≡ Some (spot_seen start, spot_seen goal) → IsWithin 2046 start × IsWithin 2046 goal
+query_list_kept : (items : List Data) (start goal : Spot) → query_from items ≡ Some (spot_seen start, spot_seen goal) → IsWithin MOST_COORDINATE start × IsWithin MOST_COORDINATE goal
 unfolding query_from
 query_list_kept (sx ∷ sy ∷ gx ∷ gy ∷ []) start goal read = query_of_four sx sy gx gy start goal read
 query_list_kept [] start goal read = cc
@@ -165,18 +190,20 @@ query_list_kept (a ∷ b ∷ []) start goal read = cc
 query_list_kept (a ∷ b ∷ c ∷ []) start goal read = cc
 query_list_kept (a ∷ b ∷ c ∷ d ∷ e ∷ rest) start goal read = cc
 
-query_kept : (v : Data) (start goal : Spot) → query_of v ≡ Some (spot_seen start, spot_seen goal) → IsWithin 2046 start × IsWithin 2046 goal
+query_kept : (v : Data) (start goal : Spot) → query_of v ≡ Some (spot_seen start, spot_seen goal) → IsWithin MOST_COORDINATE start × IsWithin MOST_COORDINATE goal
 unfolding query_of
 query_kept v start goal read = option_and_then_some query_from (elements v) (spot_seen start, spot_seen goal) read (λ items _ rest. query_list_kept items start goal rest)
 
-point_of_three : (x y w : Data) (p : Spot) → point_from (x ∷ y ∷ w ∷ []) ≡ Some (spot_seen p) → IsWithin 2046 p
+-- ---- paths
+
+point_of_three : (x y w : Data) (p : Spot) → point_from (x ∷ y ∷ w ∷ []) ≡ Some (spot_seen p) → IsWithin MOST_COORDINATE p
 unfolding point_from
 point_of_three x y w p read =
-    option_and_then_some _ (spot_at 2046 x y) (spot_seen p) read (λ q q_read rest.
+    option_and_then_some _ (spot_at MOST_COORDINATE x y) (spot_seen p) read (λ q q_read rest.
     option_and_then_some _ (whole (pos 1) (pos 1) w) (spot_seen p) rest (λ _ _ same.
-    spot_bounded 2046 x y p (q_read ∙ same)))
+    spot_bounded MOST_COORDINATE x y p (q_read ∙ same)))
 
-point_list_kept : (items : List Data) (p : Spot) → point_from items ≡ Some (spot_seen p) → IsWithin 2046 p
+point_list_kept : (items : List Data) (p : Spot) → point_from items ≡ Some (spot_seen p) → IsWithin MOST_COORDINATE p
 unfolding point_from
 point_list_kept (x ∷ y ∷ w ∷ []) p read = point_of_three x y w p read
 point_list_kept [] p read = cc
@@ -184,19 +211,31 @@ point_list_kept (a ∷ []) p read = cc
 point_list_kept (a ∷ b ∷ []) p read = cc
 point_list_kept (a ∷ b ∷ c ∷ d ∷ rest) p read = cc
 
-point_kept : (v : Data) (p : Spot) → point_of v ≡ Some (spot_seen p) → IsWithin 2046 p
+point_kept : (v : Data) (p : Spot) → point_of v ≡ Some (spot_seen p) → IsWithin MOST_COORDINATE p
 unfolding point_of
 point_kept v p read = option_and_then_some point_from (elements v) (spot_seen p) read (λ items _ rest. point_list_kept items p rest)
 
-HasBounds : FirstShape → Type 0
-HasBounds o = ((1 ≤ o.id) × (o.id ≤ 65535)) × IsTriangle o.spots
+path_kept : (v : Data) (path : List Spot) → path_of v ≡ Some (map spot_seen path) → All (IsWithin MOST_COORDINATE) path × (length path < values v)
+unfolding path_of
+path_kept v path read =
+    option_and_then_some _ (get (codes "path") v) (map spot_seen path) read (λ points found rest.
+    let listed = (under (is_none (get (codes "chain") v)) (option_and_then (each point_of) (elements points)) (map spot_seen path) rest).1 in
+    option_and_then_some (each point_of) (elements points) (map spot_seen path) listed (λ vs is_list vs_read. (
+      each_keeps (IsWithin MOST_COORDINATE) point_of spot_seen point_kept vs path vs_read,
+      omega (arith, each_as_many point_of spot_seen vs path vs_read, elements_are_few points vs is_list, member_has_fewer (codes "path") v points found),
+    )))
+
+-- ---- obstacles
+
+IsObstacle : FirstShape → Type 0
+IsObstacle o = ((1 ≤ o.id) × (o.id ≤ 65535)) × IsTriangle o.spots
 
 id_bounded : (z : ℤ) (id : ℕ) → int_le (pos 1) z ≡ true → int_le z (pos 65535) ≡ true → natural z ≡ id → (1 ≤ id) × (id ≤ 65535)
 id_bounded (pos n) id low high is = (grind (arith, ints), grind (arith, ints))
 id_bounded (negsuc n) id low high is = absurd (grind (arith, ints))
 
-obstacle_kept : (v : Data) (o : FirstShape) → obstacle_of v ≡ Some (obstacle_seen o) → HasBounds o
-unfolding obstacle_of whole HasBounds
+obstacle_kept : (v : Data) (o : FirstShape) → obstacle_of v ≡ Some (obstacle_seen o) → IsObstacle o
+unfolding obstacle_of whole IsObstacle
 obstacle_kept v o read =
     option_and_then_some _ (member (codes "id") (whole (pos 1) (pos 65535)) v) (obstacle_seen o) read (λ id id_read rest.
     option_and_then_some _ (member (codes "shape") shape_of v) (obstacle_seen o) rest (λ shape shape_read same.
@@ -207,27 +246,19 @@ obstacle_kept v o read =
       option_and_then_some shape_of (get (codes "shape") v) shape shape_read (λ d _ d_read. shape_kept d o.spots (d_read ∙ ap (λ p. Some p.shape) is)),
     )))
 
-obstacles_kept : (v : Data) (os : List FirstShape) → obstacles_of v ≡ Some (map obstacle_seen os) → (length os ≤ 64) × All HasBounds os
+obstacles_kept : (v : Data) (os : List FirstShape) → obstacles_of v ≡ Some (map obstacle_seen os) → (length os ≤ 64) × All IsObstacle os
 unfolding obstacles_of
 obstacles_kept v os read =
     let p = passed (λ os. nat_le (length os) 64 && differ os) (option_and_then (each obstacle_of) (elements v)) (map obstacle_seen os) read in
     let few = (and_parts (nat_le (length (map obstacle_seen os)) 64) (differ (map obstacle_seen os)) p.1).0 in (
       leb-true (length os) 64 (rw length-map at few),
-      option_and_then_some (each obstacle_of) (elements v) (map obstacle_seen os) p.0 (λ items _ rest. each_keeps HasBounds obstacle_of obstacle_seen obstacle_kept items os rest),
+      option_and_then_some (each obstacle_of) (elements v) (map obstacle_seen os) p.0 (λ items _ rest. each_keeps IsObstacle obstacle_of obstacle_seen obstacle_kept items os rest),
     )
 
-path_kept : (v : Data) (path : List Spot) → path_of v ≡ Some (map spot_seen path) → All (IsWithin 2046) path × (length path < values v)
-unfolding path_of
-path_kept v path read =
-    option_and_then_some _ (get (codes "path") v) (map spot_seen path) read (λ points found rest.
-    let listed = (under (is_none (get (codes "chain") v)) (option_and_then (each point_of) (elements points)) (map spot_seen path) rest).1 in
-    option_and_then_some (each point_of) (elements points) (map spot_seen path) listed (λ vs is_list vs_read. (
-      each_keeps (IsWithin 2046) point_of spot_seen point_kept vs path vs_read,
-      omega (arith, each_as_many point_of spot_seen vs path vs_read, elements_are_few points vs is_list, member_has_fewer (codes "path") v points found),
-    )))
+-- ---- documents
 
 members_kept : (v : Data) (d : FirstDocument) → document_of v ≡ Some (document_seen d) → values v ≤ suc most_bytes → Fits d
-unfolding document_of HasBounds
+unfolding document_of IsObstacle
 members_kept v d read small =
     option_and_then_some _ (member (codes "format") (whole (pos 1) (pos 1)) v) (document_seen d) read (λ _ _ after_format.
     option_and_then_some _ (member (codes "frame") frame_of v) (document_seen d) after_format (λ frame frame_read after_frame.
@@ -239,7 +270,7 @@ members_kept v d read small =
     let is : (record { scene = scene; start = query.0; goal = query.1; path = path }) ≡ document_seen d = same_Some _ _ same in
     let good = option_and_then_some obstacles_of (get (codes "obstacles") v) obstacles obstacles_read (λ w _ w_read. obstacles_kept w d.obstacles.items (w_read ∙ ap (λ f. Some f.scene.obstacles) is)) in
     let ends = option_and_then_some query_of (get (codes "query") v) query query_read (λ w _ w_read. query_kept w d.start d.goal (w_read ∙ ap (λ f. Some (f.start, f.goal)) is)) in
-    let points : All (IsWithin 2046) d.path.items × (length d.path.items ≤ most_bytes) =
+    let points : All (IsWithin MOST_COORDINATE) d.path.items × (length d.path.items ≤ most_bytes) =
     option_and_then_some path_of (get (codes "certificate") v) path path_read (λ w found w_read.
     let kept = path_kept w d.path.items (w_read ∙ ap (λ f. Some f.path) is) in
     let few : length d.path.items ≤ most_bytes = omega (arith, kept.1, member_has_fewer (codes "certificate") v w found) in

@@ -1,5 +1,4 @@
 pub mod Streams
-pub mod Documents
 pub mod Lists
 pub mod Texts
 pub mod Fits

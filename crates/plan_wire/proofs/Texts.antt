@@ -7,29 +7,29 @@ use Rattle.serde_json.specs.Data.{Data}
 use Rattle.serde_json.specs.Read.{read}
 use Rattle.plan_wire.specs.Document.{First, most_bytes, first_of, document_of}
 
-both : (a b : Bool) (x : Option First) → a ≡ true → b ≡ true → cond (a && b) x None ≡ x
-both a b x left right = rw (left, right) refl
+both_hold : (a b : Bool) (x : Option First) → a ≡ true → b ≡ true → cond (a && b) x None ≡ x
+both_hold a b x left right = rw (left, right) refl
 
-not_left : (a b : Bool) (x : Option First) → a ≡ false → cond (a && b) x None ≡ None
-not_left a b x left = rw left refl
+first_fails : (a b : Bool) (x : Option First) → a ≡ false → cond (a && b) x None ≡ None
+first_fails a b x left = rw left refl
 
-not_right : (a b : Bool) (x : Option First) → (b ≡ true → ⊥) → cond (a && b) x None ≡ None
-not_right a true x right = absurd (right refl)
-not_right true false x right = refl
-not_right false false x right = refl
+second_fails : (a b : Bool) (x : Option First) → (b ≡ true → ⊥) → cond (a && b) x None ≡ None
+second_fails a true x right = absurd (right refl)
+second_fails true false x right = refl
+second_fails false false x right = refl
 
 pub too_long : (bytes : List ℕ) → most_bytes < length bytes → first_of bytes ≡ None
 unfolding first_of
-too_long bytes long = not_left _ _ _ (lt-leb _ _ long)
+too_long bytes long = first_fails _ _ _ (lt-leb _ _ long)
 
 pub no_text : (bytes : List ℕ) → (IsUtf8 bytes → ⊥) → first_of bytes ≡ None
 unfolding first_of
-no_text bytes other = not_right _ _ _ (λ is. other (IsUtf8-from_is_utf8 bytes is))
+no_text bytes other = second_fails _ _ _ (λ is. other (IsUtf8-from_is_utf8 bytes is))
 
 -- bytes that are text, and few enough, are what they are read as
 read_as : (bytes : List ℕ) → length bytes ≤ most_bytes → IsUtf8 bytes → first_of bytes ≡ option_and_then document_of (read bytes)
 unfolding first_of
-read_as bytes small text = both _ _ _ (le-leb _ _ small) (is_utf8-from_IsUtf8 bytes text)
+read_as bytes small text = both_hold _ _ _ (le-leb _ _ small) (is_utf8-from_IsUtf8 bytes text)
 
 from_none : (o : Option Data) → o ≡ None → option_and_then document_of o ≡ None
 from_none o none = rw none refl

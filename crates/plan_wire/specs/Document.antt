@@ -1,6 +1,7 @@
--- The first documents: a robot and obstacles of three spots each, and a path of whole-number points, as a function of the JSON value that the bytes are read as.
+-- The first documents: a robot and obstacles of three spots each, and a path of whole-number points, as a function of the JSON value
+-- that the bytes are read as.
 -- What ends in `_of` reads one value, what ends in `_from` the elements of a list, and `first_of` the bytes.
-use Rattle.std.specs.Prelude.{ℕ, ◌&&◌, not, Bool, true, false, ℤ, pos, neg_ℤ, int_lt, int_le, nat_le, nat_eq, List, [], ◌∷◌, length, codes, Option, Some, None, option_map, option_and_then, is_none, if◌then◌else◌}
+use Rattle.std.specs.Prelude.{ℕ, ◌&&◌, not, Bool, true, ℤ, pos, neg_ℤ, int_lt, int_le, nat_le, nat_eq, List, [], ◌∷◌, length, codes, Option, Some, None, option_map, option_and_then, is_none, if◌then◌else◌}
 use Rattle.std.specs.List.{list_all}
 use Rattle.std.specs.Str.{is_utf8}
 use Rattle.std.specs.Ordering.{int_eq}
@@ -10,6 +11,7 @@ use Rattle.serde_json.specs.Read.{read}
 use Rattle.plan_spec.specs.Vector.{Vector, spot, turn}
 use Rattle.plan_spec.specs.Frame.{Frame}
 use Rattle.plan_spec.specs.Placement.{Obstacle, Scene}
+use Rattle.plan_grid.specs.declared.bounds.TheConstants.{MOST_CORNER, MOST_COORDINATE}
 
 -- a scene, a query from start to goal, and the path that is offered for it
 pub record First : Type 0 where
@@ -66,18 +68,23 @@ spot_at limit x y = bind (within limit x) (λ x. bind (within limit y) (λ y. So
 -- ---- shapes: x and y from -1023 to 1023 of three spots that are not in one line
 
 unfoldable pub spot_from : List Data → Option Vector
-spot_from (x ∷ y ∷ []) = spot_at 1023 x y
+spot_from (x ∷ y ∷ []) = spot_at MOST_CORNER x y
 spot_from _ = None
 
 unfoldable pub spot_of : Data → Option Vector
 spot_of v = bind (elements v) spot_from
 
-abbrev pub is_triangle : List Vector → Bool
-is_triangle (a ∷ b ∷ c ∷ []) = not (int_eq (turn a b c) (pos 0))
-is_triangle _ = false
+abbrev pub is_not_flat : Vector → Vector → Vector → Bool
+is_not_flat a b c = not (int_eq (turn a b c) (pos 0))
+
+unfoldable pub shape_from : List Data → Option (List Vector)
+shape_from (a ∷ b ∷ c ∷ []) =
+    bind (spot_of a) (λ a. bind (spot_of b) (λ b. bind (spot_of c) (λ c.
+    if is_not_flat a b c then Some (a ∷ b ∷ c ∷ []) else None)))
+shape_from _ = None
 
 unfoldable pub shape_of : Data → Option (List Vector)
-shape_of v = bind (bind (elements v) (each spot_of)) (given is_triangle)
+shape_of v = bind (elements v) shape_from
 
 -- ---- frames: x and y from -1023 to 1023 of two corners, the first left of the second and below it
 
@@ -86,7 +93,7 @@ is_frame f = int_lt f.low.x f.high.x && int_lt f.low.y f.high.y
 
 unfoldable pub frame_from : List Data → Option Frame
 frame_from (x1 ∷ y1 ∷ x2 ∷ y2 ∷ []) =
-    bind (spot_at 1023 x1 y1) (λ low. bind (spot_at 1023 x2 y2) (λ high. given is_frame (record { low = low; high = high })))
+    bind (spot_at MOST_CORNER x1 y1) (λ low. bind (spot_at MOST_CORNER x2 y2) (λ high. given is_frame (record { low = low; high = high })))
 frame_from _ = None
 
 unfoldable pub frame_of : Data → Option Frame
@@ -114,7 +121,7 @@ obstacles_of v = bind (bind (elements v) (each obstacle_of)) (given (λ os. nat_
 -- ---- queries: x and y from -2046 to 2046 of a start and of a goal
 
 unfoldable pub query_from : List Data → Option (Vector × Vector)
-query_from (sx ∷ sy ∷ gx ∷ gy ∷ []) = bind (spot_at 2046 sx sy) (λ start. bind (spot_at 2046 gx gy) (λ goal. Some (start, goal)))
+query_from (sx ∷ sy ∷ gx ∷ gy ∷ []) = bind (spot_at MOST_COORDINATE sx sy) (λ start. bind (spot_at MOST_COORDINATE gx gy) (λ goal. Some (start, goal)))
 query_from _ = None
 
 unfoldable pub query_of : Data → Option (Vector × Vector)
@@ -123,14 +130,16 @@ query_of v = bind (elements v) query_from
 -- ---- certificates: points by x and y from -2046 to 2046 and the weight 1, under `path`, and no `chain` beside it
 
 unfoldable pub point_from : List Data → Option Vector
-point_from (x ∷ y ∷ w ∷ []) = bind (spot_at 2046 x y) (λ p. bind (whole (pos 1) (pos 1) w) (λ _. Some p))
+point_from (x ∷ y ∷ w ∷ []) = bind (spot_at MOST_COORDINATE x y) (λ p. bind (whole (pos 1) (pos 1) w) (λ _. Some p))
 point_from _ = None
 
 unfoldable pub point_of : Data → Option Vector
 point_of v = bind (elements v) point_from
 
 unfoldable pub path_of : Data → Option (List Vector)
-path_of v = bind (get (codes "path") v) (λ path. if is_none (get (codes "chain") v) then bind (elements path) (each point_of) else None)
+path_of v =
+    bind (get (codes "path") v) (λ path.
+    if is_none (get (codes "chain") v) then bind (elements path) (each point_of) else None)
 
 -- ---- the document
 

@@ -11,8 +11,9 @@ mod shape;
 use plan_grid::{Frame, Spot};
 pub use read::{FirstReadFault, read_first};
 
-/// The first document: a robot and at most 64 obstacles of three spots each, a frame, a start, a goal, and the path
-/// between them. A robot, an obstacle and a frame reach from -1023 to 1023, and points from -2046 to 2046.
+/// The first document: a robot and at most 64 obstacles of three spots each, a frame, a start, a goal,
+/// and the path between them. A robot, an obstacle and a frame reach from -1023 to 1023, and points
+/// from -2046 to 2046.
 #[derive(Drop)]
 pub struct FirstDocument {
     pub frame: Frame,

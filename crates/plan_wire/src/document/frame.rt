@@ -1,19 +1,19 @@
 // The frame.
-ghost use Rattle.std.specs.Prelude.{◌≡◌, map, option_map, int_lt, ◌&&◌};
+ghost use Rattle.std.specs.Prelude.{◌≡◌, map, option_map};
 ghost use Rattle.serde_json.specs.View.{view};
 ghost use Rattle.plan_grid.specs.Frame.{frame_seen};
 ghost use Rattle.plan_wire.specs.Document as document;
 
 use super::lists::elements;
 use super::numbers::spot_at;
-use plan_grid::{Frame, Spot};
+use plan_grid::{Frame, MOST_CORNER};
 use serde_json::Value;
 
-// Whether a is left of b and below it.
-fn is_below(a: Spot, b: Spot) -> bool
-    ensures { result ≡ (int_lt a.x b.x && int_lt a.y b.y) }
+// Whether the first corner is left of the second and below it.
+fn is_frame(frame: Frame) -> bool
+    ensures { result ≡ document.is_frame (frame_seen frame) }
 {
-    a.x < b.x && a.y < b.y
+    frame.low.x < frame.high.x && frame.low.y < frame.high.y
 }
 
 #[tactic(auto, unfolding(crate::specs::Document::frame_from))]
@@ -23,13 +23,10 @@ fn frame_from(items: &[Value]) -> Option<Frame>
     let [x1, y1, x2, y2] = items else {
         return None;
     };
-    let low = spot_at(1023, x1, y1)?;
-    let high = spot_at(1023, x2, y2)?;
-    if is_below(low, high) {
-        Some(Frame { low, high })
-    } else {
-        None
-    }
+    let low = spot_at(MOST_CORNER, x1, y1)?;
+    let high = spot_at(MOST_CORNER, x2, y2)?;
+    let frame = Frame { low, high };
+    is_frame(frame).then_some(frame)
 }
 
 // A frame by x and y of its lower left corner and of its upper right one.

@@ -6,7 +6,7 @@ ghost use Rattle.plan_wire.specs.Document as document;
 use serde_json::Value;
 
 // The elements of a list.
-#[tactic(auto, using(crate::proofs::Documents::list_of_items_view), unfolding(crate::specs::Document::elements))]
+#[tactic(auto, using(crate::proofs::Lists::list_of_items_view), unfolding(crate::specs::Document::elements))]
 pub(crate) fn elements(v: &Value) -> Option<&[Value]>
     ensures { option_map (λ vs. map view vs.now) result ≡ document.elements (view v.now) }
 {

@@ -6,7 +6,7 @@ ghost use Rattle.plan_wire.specs.Document as document;
 
 use super::lists::elements;
 use super::numbers::{spot_at, whole};
-use plan_grid::Spot;
+use plan_grid::{MOST_COORDINATE, Spot};
 use serde_json::Value;
 use std::alloc::{AllocError, Global};
 
@@ -17,7 +17,7 @@ fn point_from(items: &[Value]) -> Option<Spot>
     let [x, y, w] = items else {
         return None;
     };
-    let p = spot_at(2046, x, y)?;
+    let p = spot_at(MOST_COORDINATE, x, y)?;
     whole(w, 1, 1)?;
     Some(p)
 }

@@ -6,7 +6,7 @@ ghost use Rattle.plan_wire.specs.Document as document;
 
 use super::lists::elements;
 use super::numbers::spot_at;
-use plan_grid::Spot;
+use plan_grid::{MOST_COORDINATE, Spot};
 use serde_json::Value;
 
 #[tactic(auto, unfolding(crate::specs::Document::query_from))]
@@ -17,8 +17,8 @@ fn query_from(items: &[Value]) -> Option<(Spot, Spot)>
     let [sx, sy, gx, gy] = items else {
         return None;
     };
-    let start = spot_at(2046, sx, sy)?;
-    let goal = spot_at(2046, gx, gy)?;
+    let start = spot_at(MOST_COORDINATE, sx, sy)?;
+    let goal = spot_at(MOST_COORDINATE, gx, gy)?;
     Some((start, goal))
 }
 

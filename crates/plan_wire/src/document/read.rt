@@ -28,9 +28,11 @@ impl From<AllocError> for FirstReadFault {
     }
 }
 
-/// Reads the document that the bytes are: at most 4,194,304 of them, in UTF-8, JSON with nesting to 127.
+/// Reads the document that the bytes are: at most 4,194,304 of them, in UTF-8, JSON with nesting to
+/// 127.
 ///
-/// Members that the form does not name are passed over, and of a member that is repeated the last counts.
+/// Members that the form does not name are passed over, and of a member that is repeated the last
+/// counts.
 pub fn read_first(alloc: Global, bytes: &[u8]) -> Result<FirstDocument, FirstReadFault>
     ensures ok { IfOk result (λ d. first_of bytes.now ≡ Some (document_seen d)) }
     ensures fits { IfOk result Fits }

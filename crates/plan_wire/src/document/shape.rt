@@ -6,33 +6,45 @@ ghost use Rattle.plan_wire.specs.Document as document;
 
 use super::lists::elements;
 use super::numbers::spot_at;
-use plan_grid::{Spot, side};
+use plan_grid::{MOST_CORNER, Spot, orientation};
 use serde_json::Value;
 
+#[tactic(auto, unfolding(crate::specs::Document::spot_from))]
+fn spot_from(items: &[Value]) -> Option<Spot>
+    ensures { option_map spot_seen result ≡ document.spot_from (map view items.now) }
+{
+    let [x, y] = items else {
+        return None;
+    };
+    spot_at(MOST_CORNER, x, y)
+}
+
 // A spot by its x and its y.
-#[tactic(auto, unfolding(crate::specs::Document::spot_of), using(crate::proofs::Documents::spot_from_two, crate::proofs::Documents::spot_from_others))]
+#[tactic(auto, unfolding(crate::specs::Document::spot_of))]
 fn spot_of(v: &Value) -> Option<Spot>
     ensures { option_map spot_seen result ≡ document.spot_of (view v.now) }
 {
-    match elements(v)? {
-        [x, y] => spot_at(1023, x, y),
-        _ => None,
-    }
+    spot_from(elements(v)?)
 }
 
-// Three spots that are not in one line.
-#[tactic(auto, unfolding(crate::specs::Document::shape_of), using(crate::proofs::Documents::shape_from_others))]
-pub(crate) fn shape_of(v: &Value) -> Option<[Spot; 3]>
-    ensures { option_map (λ spots. map spot_seen spots) result ≡ document.shape_of (view v.now) }
+#[tactic(auto, unfolding(crate::specs::Document::shape_from))]
+fn shape_from(items: &[Value]) -> Option<[Spot; 3]>
+    ensures { option_map (λ spots. map spot_seen spots) result
+        ≡ document.shape_from (map view items.now) }
 {
-    let [a, b, c] = elements(v)? else {
+    let [a, b, c] = items else {
         return None;
     };
     let a = spot_of(a)?;
     let b = spot_of(b)?;
     let c = spot_of(c)?;
-    if side(a, b, c) == 0 {
-        return None;
-    }
-    Some([a, b, c])
+    orientation(a, b, c).is_ne().then_some([a, b, c])
+}
+
+// Three spots that are not in one line.
+#[tactic(auto, unfolding(crate::specs::Document::shape_of))]
+pub(crate) fn shape_of(v: &Value) -> Option<[Spot; 3]>
+    ensures { option_map (λ spots. map spot_seen spots) result ≡ document.shape_of (view v.now) }
+{
+    shape_from(elements(v)?)
 }

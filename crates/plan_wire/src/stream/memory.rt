@@ -65,7 +65,8 @@ impl Model for MemorySource {
 }
 
 impl MemorySource {
-    /// A source of these bytes, at most `piece` of them a call; the calls that `fails` lists, counted from 1, fail.
+    /// A source of these bytes, at most `piece` of them a call; the calls that `fails` lists, counted
+    /// from 1, fail.
     pub fn new(bytes: Vec<u8>, piece: u32, fails: Vec<u32>) -> MemorySource
         requires { 1 ≤ piece }
         ensures { result ≡ record {
@@ -98,7 +99,8 @@ impl Source for MemorySource {
         ensures within { IfOk result (λ n. n ≤ length room.new) }
         ensures few { IfOk result (λ n. n ≤ self.old.piece) }
         ensures piece { self.new.piece ≡ self.old.piece }
-        ensures taken { IfOk result (TakesNext (Some self.old.bytes) (Some self.new.bytes) room.new) }
+        ensures taken { IfOk result
+            (TakesNext (Some self.old.bytes) (Some self.new.bytes) room.new) }
         ensures fails { IsErr result ↔ Contains self.new.calls.fails self.new.calls.made }
         ensures made { self.new.calls.made ≡ min (self.old.calls.made + 1) (2 ^ 32 - 1) }
         ensures same { self.new.calls.fails ≡ self.old.calls.fails }
@@ -115,7 +117,8 @@ impl Source for MemorySource {
     }
 }
 
-/// A sink in memory, which takes few bytes a call, and fails where it is told to and where it has no room left.
+/// A sink in memory, which takes few bytes a call, and fails where it is told to and where it has no
+/// room left.
 #[derive(Drop)]
 pub struct MemorySink {
     held: SteadySink,
@@ -132,8 +135,8 @@ impl Model for MemorySink {
 }
 
 impl MemorySink {
-    /// A sink with room for so many bytes, which takes at most `piece` of them a call; the calls that `fails` lists,
-    /// counted from 1, fail. All its memory is taken here.
+    /// A sink with room for so many bytes, which takes at most `piece` of them a call; the calls that
+    /// `fails` lists, counted from 1, fail. All its memory is taken here.
     pub fn new(
         alloc: Global,
         room: u32,
@@ -177,7 +180,8 @@ impl Sink for MemorySink {
         ensures some { IfOk result (λ n. 0 < length piece.now → 0 < n) }
         ensures few { IfOk result (λ n. n ≤ self.old.piece) }
         ensures piece { self.new.piece ≡ self.old.piece }
-        ensures taken { IfOk result (λ n. self.new.held.bytes ≡ self.old.held.bytes ++ take n piece.now) }
+        ensures taken { IfOk result
+            (λ n. self.new.held.bytes ≡ self.old.held.bytes ++ take n piece.now) }
         ensures room { self.new.held.room ≡ self.old.held.room }
         ensures fails { IsErr result ↔ (Contains self.new.calls.fails self.new.calls.made
             ⊎ ((0 < length piece.now) × (length self.old.held.bytes ≡ self.old.held.room))) }

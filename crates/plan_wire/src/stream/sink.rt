@@ -5,8 +5,8 @@ use super::failed::Failed;
 
 /// Where bytes go.
 ///
-/// It means the bytes written, where it tells them, and a count of faults, which rises where a write fails and
-/// nowhere else.
+/// It means the bytes written, where it tells them, and a count of faults, which rises where a write
+/// fails and nowhere else.
 pub trait Sink {
     ghost written: { Self → Option (List ℕ) };
 
@@ -15,7 +15,8 @@ pub trait Sink {
     // What one failure may do to the count.
     ghost rises: { ℕ → ℕ → Type 0 };
 
-    /// Takes the first bytes of the piece, and says how many; of a piece that is not empty, at least one.
+    /// Takes the first bytes of the piece, and says how many; of a piece that is not empty, at least
+    /// one.
     fn write(&mut self, piece: &[u8]) -> Result<usize, Failed>
         ensures count { faults self.old ≤ faults self.new }
         ensures within { IfOk result (λ n. n ≤ length piece.now) }

@@ -5,8 +5,8 @@ use super::failed::Failed;
 
 /// Where bytes come from.
 ///
-/// It means the bytes that are left, where it tells them, and a count of faults, which rises where a read fails and
-/// nowhere else.
+/// It means the bytes that are left, where it tells them, and a count of faults, which rises where a
+/// read fails and nowhere else.
 pub trait Source {
     ghost remaining: { Self → Option (List ℕ) };
 
@@ -15,7 +15,8 @@ pub trait Source {
     // What one failure may do to the count.
     ghost rises: { ℕ → ℕ → Type 0 };
 
-    /// Puts the next bytes into the room, and says how many. None for a room that is not empty means the end.
+    /// Puts the next bytes into the room, and says how many. None for a room that is not empty means
+    /// the end.
     fn read(&mut self, room: &mut [u8]) -> Result<usize, Failed>
         ensures count { faults self.old ≤ faults self.new }
         ensures within { IfOk result (λ n. n ≤ length room.new) }

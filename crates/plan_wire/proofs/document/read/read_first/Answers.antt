@@ -1,5 +1,5 @@
 -- What is read is what the bytes are as a document, and where nothing is read they are none.
-use Rattle.std.proofs.Common.{arith, rules, sym}
+use Rattle.std.proofs.Common.{arith, rules}
 use Rattle.plan_wire.proofs.Fits.{fits_where_read}
 use Rattle.plan_wire.proofs.Texts.{too_long, no_text, no_value, of_value}
 use Rattle.plan_wire.proofs.document.read.read_first.Goals as goal
