@@ -2,7 +2,6 @@
 use Rattle.std.proofs.Common.{List, [], ◌∷◌, ◌++◌, All, get_or, ◌≡◌, length, length-append, refl, arith, ap, reverse, sym, ◌∙◌}
 use Rattle.std.proofs.lemmas.Grind.{reverse_onto}
 use Rattle.std.proofs.lemmas.List.Elements.{All-nil, All-cons, All-head, All-tail, All-append}
-use Rattle.plan_spec.specs.Vector.{Vector}
 use Rattle.plan_plane.proofs.Pairs.{Pairs, Across, pairs_join}
 
 -- ---- lists in the other order
@@ -29,6 +28,6 @@ pub back_append : {X : Type 0} (xs : List X) (x : X) → back (xs ++ x ∷ []) �
 back_append [] x = refl
 back_append (y ∷ xs) x = ap (λ zs. zs ++ y ∷ []) (back_append xs x)
 
-pub back_is : (xs : List Vector) → back xs ≡ reverse xs
+pub back_is : {X : Type 0} (xs : List X) → back xs ≡ reverse xs
 back_is [] = refl
 back_is (x ∷ xs) = ap (λ zs. zs ++ x ∷ []) (back_is xs) ∙ sym (reverse_onto xs x [])

@@ -1,4 +1,5 @@
 pub mod EvenOdd
 pub mod Loop
-pub mod Least
+pub mod FromLeast
 pub mod Meets
+pub mod Spots

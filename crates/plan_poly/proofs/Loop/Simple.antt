@@ -16,10 +16,10 @@ use Rattle.plan_plane.proofs.Segment.Whether.{same_or_not}
 use Rattle.plan_poly.proofs.Loop.Loop.{IsEnd, MeetRight, Differ, Loop}
 use Rattle.plan_plane.proofs.Polygon.Numbered.{length_edges, edge_next, edge_last}
 
-some_in : {X : Type 0} (P : X → Type 0) (xs : List X) (i : ℕ) (d : X) → i < length xs → P (get_or xs i d) → IsSomeAnd (slice_get xs i) P
+pub some_in : {X : Type 0} (P : X → Type 0) (xs : List X) (i : ℕ) (d : X) → i < length xs → P (get_or xs i d) → IsSomeAnd (slice_get xs i) P
 some_in P xs i d within h = subst (λ o. IsSomeAnd o P) (sym (slice_get-get_or xs i d within)) h
 
-some_out : {X : Type 0} (P : X → Type 0) (xs : List X) (i : ℕ) (d : X) → i < length xs → IsSomeAnd (slice_get xs i) P → P (get_or xs i d)
+pub some_out : {X : Type 0} (P : X → Type 0) (xs : List X) (i : ℕ) (d : X) → i < length xs → IsSomeAnd (slice_get xs i) P → P (get_or xs i d)
 some_out P xs i d within h = subst (λ o. IsSomeAnd o P) (slice_get-get_or xs i d within) h
 
 -- ---- the edge numbered i

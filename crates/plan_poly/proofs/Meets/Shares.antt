@@ -1,6 +1,5 @@
 -- Two segments have a common point exactly where an end of one is on the other, or each has its ends strictly on the two sides of the other. Two that begin at one point have another common point exactly where the other end of one is on the other.
 use Rattle.std.proofs.Common.{◌⊎◌, inl, inr, ℤ, pos, ◌≤ℤ◌, ◌<ℤ◌, arith, ◌≡◌, ◌↔◌, ◌-ℤ◌, ◌*ℤ◌, [], ◌∷◌, neg_ℤ, ◌+ℤ◌}
-use Rattle.std.specs.Prelude.{ℤ, pos, ◌<ℤ◌, ◌⊎◌}
 use Rattle.plan_exact.specs.Expr.{◌⊖◌, ◌⊗◌}
 use Rattle.plan_exact.specs.Formal.{A, B, C, D}
 use Rattle.plan_exact.specs.Formal as F
@@ -10,7 +9,7 @@ use Rattle.plan_exact.proofs.Laws.{linear}
 use Rattle.plan_exact.proofs.Ring.{ring}
 use Rattle.plan_exact.proofs.Signs.{mul_pos, mul_nonneg_nonpos, mul_of_zero, le_or_lt, le_of_lt, mul_pos_neg, sign_of, mul_neg, zero_of_mul, pos_of_mul, order_of}
 use Rattle.plan_exact.proofs.Vectors.{det_turned, det_swapped, dot_opposite}
-use Rattle.plan_spec.specs.Segment.{On, segment, Common}
+use Rattle.plan_spec.specs.Segment.{Segment, On, segment, HasPoints, Common}
 use Rattle.plan_spec.specs.Vector.{Vector, Same, turn, IsPoint}
 use Rattle.plan_plane.proofs.Crossing.Sides.{common_by_sides}
 use Rattle.plan_plane.proofs.Segment.SameSign.{pos_same, zero_same}
@@ -23,20 +22,14 @@ use Rattle.plan_plane.proofs.Segment.Reversed.{common_last}
 use Rattle.plan_plane.proofs.Segment.Same.{Same-swapped, on_same}
 use Rattle.plan_plane.proofs.Segment.AtEnds.{first_weight, second_weight}
 use Rattle.plan_plane.proofs.Segment.Whether.{same_or_not}
-
--- a is on the segment m b, and is not m
-abbrev pub Beyond : Vector → Vector → Vector → Type 0
-Beyond m a b = On (segment m b) a × ¬ (Same a m)
+use Rattle.plan_poly.specs.Edge.{FoldsBack, PartEachOther, HaveEndOnOther}
 
 -- one is positive, the other negative
-abbrev pub Opposed : ℤ → ℤ → Type 0
-Opposed x y = ((pos 0 <ℤ x) × (y <ℤ pos 0)) ⊎ ((x <ℤ pos 0) × (pos 0 <ℤ y))
+abbrev Opposed : ℤ → ℤ → Type 0
+Opposed x y = ((pos 0 <ℤ x) × (y <ℤ pos 0)) ⊎ ((pos 0 <ℤ y) × (x <ℤ pos 0))
 
-abbrev pub EndOn : Vector → Vector → Vector → Vector → Type 0
-EndOn a b c d = On (segment a b) c ⊎ (On (segment a b) d ⊎ (On (segment c d) a ⊎ On (segment c d) b))
-
-abbrev pub Shares : Vector → Vector → Vector → Vector → Type 0
-Shares a b c d = EndOn a b c d ⊎ (Opposed (turn a b c) (turn a b d) × Opposed (turn c d a) (turn c d b))
+abbrev Shares : Segment → Segment → Type 0
+Shares s t = PartEachOther s t ⊎ HaveEndOnOther s t
 
 -- ---- neighbours
 ahead : (m a z : Vector) → IsPoint m → IsPoint a → IsPoint z → ¬ (Same m z) → On (segment m a) z → pos 0 <ℤ dot (facing m z) a
@@ -52,14 +45,14 @@ ahead m a z hm ha hz apart o = by (le_or_lt (dot (facing m z) a) (pos 0))
         let l = facing m z in
         absurd (omega (arith, linear, dot_between b l, mul_pos b.scale_positive (facing_to m z apart), mul_of_zero b.first (dot l m) (facing_from m z), mul_nonneg_nonpos b.second_nonneg h))
 
-pub neighbours : (m a b : Vector) → IsPoint m → IsPoint a → IsPoint b → ((z : Vector) × IsPoint z × On (segment m a) z × On (segment m b) z × ¬ (Same z m)) ↔ (Beyond m a b ⊎ Beyond m b a)
+pub neighbours : (m a b : Vector) → IsPoint m → IsPoint a → IsPoint b → ((z : Vector) × IsPoint z × On (segment m a) z × On (segment m b) z × ¬ (Same z m)) ↔ FoldsBack m a b
 neighbours m a b hm ha hb = (from, to)
   where
-    to : Beyond m a b ⊎ Beyond m b a → (z : Vector) × IsPoint z × On (segment m a) z × On (segment m b) z × ¬ (Same z m)
+    to : FoldsBack m a b → (z : Vector) × IsPoint z × On (segment m a) z × On (segment m b) z × ¬ (Same z m)
     to (inl h) = (a, ha, on (between_second m a ha), h.0, h.1)
     to (inr h) = (b, hb, h.0, on (between_second m b hb), h.1)
 
-    at : (z : Vector) → IsPoint z → On (segment m a) z → On (segment m b) z → ¬ (Same z m) → Beyond m a b ⊎ Beyond m b a
+    at : (z : Vector) → IsPoint z → On (segment m a) z → On (segment m b) z → ¬ (Same z m) → FoldsBack m a b
     at z hz oa ob n = go (middle a b m ha hb hm (omega (arith, linear, line, det_turned m a b)))
       where
         apart : ¬ (Same m z)
@@ -77,12 +70,12 @@ neighbours m a b hm ha hb = (from, to)
         other : (e : Vector) → IsPoint e → pos 0 <ℤ dot (facing m z) e → ¬ (Same e m)
         other e he h s = omega (arith, linear, facing_from m z, pos_same (facing m z) e m he hm s h)
 
-        go : Middle a b m → Beyond m a b ⊎ Beyond m b a
+        go : Middle a b m → FoldsBack m a b
         go (first k) = inl (on (swapped k), other a ha la)
         go (second k) = inr (on (swapped k), other b hb lb)
         go (third k) = absurd (omega (arith, linear, facing_from m z, pos_at hm k (facing m z) la lb))
 
-    from : (z : Vector) × IsPoint z × On (segment m a) z × On (segment m b) z × ¬ (Same z m) → Beyond m a b ⊎ Beyond m b a
+    from : (z : Vector) × IsPoint z × On (segment m a) z × On (segment m b) z × ¬ (Same z m) → FoldsBack m a b
     from (z, hz, oa, ob, n) = at z hz oa ob n
 
 -- ---- two segments
@@ -95,16 +88,16 @@ upward a b c d ha hb hc hd ka kb =
     let n : pos 0 <ℤ neg_ℤ (turn c d b) = omega (arith, linear) in
     common_by_sides a b c d (omega (arith, linear)) (le_of_lt hd) (le_of_lt ka) (omega (arith, linear)) (omega (arith, linear, mul_pos n ha, mul_pos ka hb))
 
-pub from_shares : (a b c d : Vector) → IsPoint a → IsPoint b → IsPoint c → IsPoint d → Shares a b c d → Common (segment a b) (segment c d)
-from_shares a b c d ha hb hc hd (inl (inl o)) = (c, hc, o, on (between_first c d hc))
-from_shares a b c d ha hb hc hd (inl (inr (inl o))) = (d, hd, o, on (between_second c d hd))
-from_shares a b c d ha hb hc hd (inl (inr (inr (inl o)))) = (a, ha, on (between_first a b ha), o)
-from_shares a b c d ha hb hc hd (inl (inr (inr (inr o)))) = (b, hb, on (between_second a b hb), o)
-from_shares a b c d ha hb hc hd (inr (inr (i, j), inl (k, l))) = upward a b c d ha hb i j k l
-from_shares a b c d ha hb hc hd (inr (inl (i, j), inr (k, l))) =
+from_shares : (a b c d : Vector) → IsPoint a → IsPoint b → IsPoint c → IsPoint d → Shares (segment a b) (segment c d) → Common (segment a b) (segment c d)
+from_shares a b c d ha hb hc hd (inr (inl (inl o))) = (c, hc, o, on (between_first c d hc))
+from_shares a b c d ha hb hc hd (inr (inl (inr o))) = (d, hd, o, on (between_second c d hd))
+from_shares a b c d ha hb hc hd (inr (inr (inl o))) = (a, ha, on (between_first a b ha), o)
+from_shares a b c d ha hb hc hd (inr (inr (inr o))) = (b, hb, on (between_second a b hb), o)
+from_shares a b c d ha hb hc hd (inl (inr (j, i), inl (k, l))) = upward a b c d ha hb i j k l
+from_shares a b c d ha hb hc hd (inl (inl (i, j), inr (l, k))) =
     common_last c d (upward a b d c ha hb j i (omega (arith, linear, det_swapped d c a, k)) (omega (arith, linear, det_swapped d c b, l)))
-from_shares a b c d ha hb hc hd (inr (inl (i, j), inl (k, l))) = absurd (omega (arith, linear, balance a b c d, mul_pos hd i, mul_pos_neg hc j, mul_pos_neg ha l, mul_pos hb k))
-from_shares a b c d ha hb hc hd (inr (inr (i, j), inr (k, l))) = absurd (omega (arith, linear, balance a b c d, mul_pos_neg hd i, mul_pos hc j, mul_pos ha l, mul_pos_neg hb k))
+from_shares a b c d ha hb hc hd (inl (inl (i, j), inl (k, l))) = absurd (omega (arith, linear, balance a b c d, mul_pos hd i, mul_pos_neg hc j, mul_pos_neg ha l, mul_pos hb k))
+from_shares a b c d ha hb hc hd (inl (inr (j, i), inr (l, k))) = absurd (omega (arith, linear, balance a b c d, mul_pos_neg hd i, mul_pos hc j, mul_pos ha l, mul_pos_neg hb k))
 
 -- ---- the other way: a common point that is no end of either
 -- of the two ends of a segment with a point z of a line that is no end: strictly on two sides, or both on the line
@@ -121,7 +114,7 @@ sides l c d z m zero w1 w2 = by (sign_of (dot l c))
         inl (inl (h, omega (arith, linear)))
     by (is_negative h) =
         let n : pos 0 <ℤ (m.second *ℤ dot l d) = omega (arith, linear, total, mul_pos_neg w1 h) in
-        inl (inr (h, pos_of_mul w2 n))
+        inl (inr (pos_of_mul w2 n, h))
     by (is_zero e) = inr (e, zero_of_mul m.second (dot l d) w2 (omega (arith, linear, total, mul_of_zero m.first (dot l c) e)))
 
 -- all on one line: from z, which is on both, an end comes first
@@ -167,7 +160,7 @@ level a b c d z ha hb hc hd hz apart o m ec ed zc zd = by (le_or_lt (pos 0) (dot
         let p = pos_at hz m l (omega (arith, linear, dot_opposite (facing z a) c)) (omega (arith, linear, dot_opposite (facing z a) d)) in
         absurd (omega (arith, linear, dot_opposite (facing z a) z, facing_from z a, p))
 
-flat : (a b c d z : Vector) → IsPoint a → IsPoint b → IsPoint c → IsPoint d → IsPoint z → ¬ (Same z a) → On (segment a b) z → On (segment c d) z → turn a b c ≡ pos 0 → turn a b d ≡ pos 0 → EndOn a b c d
+flat : (a b c d z : Vector) → IsPoint a → IsPoint b → IsPoint c → IsPoint d → IsPoint z → ¬ (Same z a) → On (segment a b) z → On (segment c d) z → turn a b c ≡ pos 0 → turn a b d ≡ pos 0 → HaveEndOnOther (segment a b) (segment c d)
 flat a b c d z ha hb hc hd hz apart oab ocd ec ed = by (level a b c d z ha hb hc hd hz apart oab n ec ed (line c ec) (line d ed))
   where
     m : Between a b z
@@ -185,26 +178,24 @@ flat a b c d z ha hb hc hd hz apart oab ocd ec ed = by (level a b c d z ha hb hc
     line : (e : Vector) → turn a b e ≡ pos 0 → turn z a e ≡ pos 0
     line e h = omega (arith, linear, det_swapped z a e, in_line b a z e two (omega (arith, linear, det_swapped b a z, oab.in_line)) (omega (arith, linear, det_swapped b a e, h)))
 
-    by : On (segment a z) c ⊎ (On (segment a z) d ⊎ (On (segment z c) a ⊎ On (segment z d) a)) → EndOn a b c d
-    by (inl o) = inl (on (between_part (between a b z ha hb hz oab) (between a z c ha hz hc o)))
-    by (inr (inl o)) = inr (inl (on (between_part (between a b z ha hb hz oab) (between a z d ha hz hd o))))
-    by (inr (inr (inl o))) = inr (inr (inl (on (between_part (between c d z hc hd hz ocd) (swapped (between z c a hz hc ha o))))))
-    by (inr (inr (inr o))) = inr (inr (inl (on (swapped (between_part (swapped (between c d z hc hd hz ocd)) (swapped (between z d a hz hd ha o)))))))
+    by : On (segment a z) c ⊎ (On (segment a z) d ⊎ (On (segment z c) a ⊎ On (segment z d) a)) → HaveEndOnOther (segment a b) (segment c d)
+    by (inl o) = inl (inl (on (between_part (between a b z ha hb hz oab) (between a z c ha hz hc o))))
+    by (inr (inl o)) = inl (inr (on (between_part (between a b z ha hb hz oab) (between a z d ha hz hd o))))
+    by (inr (inr (inl o))) = inr (inl (on (between_part (between c d z hc hd hz ocd) (swapped (between z c a hz hc ha o)))))
+    by (inr (inr (inr o))) = inr (inl (on (swapped (between_part (swapped (between c d z hc hd hz ocd)) (swapped (between z d a hz hd ha o))))))
 
-exchanged : (a b c d : Vector) → EndOn c d a b → EndOn a b c d
-exchanged a b c d (inl o) = inr (inr (inl o))
-exchanged a b c d (inr (inl o)) = inr (inr (inr o))
-exchanged a b c d (inr (inr (inl o))) = inl o
-exchanged a b c d (inr (inr (inr o))) = inr (inl o)
+exchanged : (s t : Segment) → HaveEndOnOther t s → HaveEndOnOther s t
+exchanged s t (inl m) = inr m
+exchanged s t (inr m) = inl m
 
-pub to_shares : (a b c d : Vector) → IsPoint a → IsPoint b → IsPoint c → IsPoint d → Common (segment a b) (segment c d) → Shares a b c d
+to_shares : (a b c d : Vector) → IsPoint a → IsPoint b → IsPoint c → IsPoint d → Common (segment a b) (segment c d) → Shares (segment a b) (segment c d)
 to_shares a b c d ha hb hc hd (z, hz, oab, ocd) = by (same_or_not z a) (same_or_not z b) (same_or_not z c) (same_or_not z d)
   where
-    by : Same z a ⊎ ¬ (Same z a) → Same z b ⊎ ¬ (Same z b) → Same z c ⊎ ¬ (Same z c) → Same z d ⊎ ¬ (Same z d) → Shares a b c d
-    by (inl e) s t r = inl (inr (inr (inl (on_same c d z a hc hd hz ha e ocd))))
-    by s (inl e) t r = inl (inr (inr (inr (on_same c d z b hc hd hz hb e ocd))))
-    by s t (inl e) r = inl (inl (on_same a b z c ha hb hz hc e oab))
-    by s t r (inl e) = inl (inr (inl (on_same a b z d ha hb hz hd e oab)))
+    by : Same z a ⊎ ¬ (Same z a) → Same z b ⊎ ¬ (Same z b) → Same z c ⊎ ¬ (Same z c) → Same z d ⊎ ¬ (Same z d) → Shares (segment a b) (segment c d)
+    by (inl e) s t r = inr (inr (inl (on_same c d z a hc hd hz ha e ocd)))
+    by s (inl e) t r = inr (inr (inr (on_same c d z b hc hd hz hb e ocd)))
+    by s t (inl e) r = inr (inl (inl (on_same a b z c ha hb hz hc e oab)))
+    by s t r (inl e) = inr (inl (inr (on_same a b z d ha hb hz hd e oab)))
     by (inr na) (inr nb) (inr nc) (inr nd) = go (sides (cross a b) c d z n oab.in_line (first_weight n nd) (second_weight n nc)) (sides (cross c d) a b z m ocd.in_line (first_weight m nb) (second_weight m na))
       where
         m : Between a b z
@@ -213,7 +204,10 @@ to_shares a b c d ha hb hc hd (z, hz, oab, ocd) = by (same_or_not z a) (same_or_
         n : Between c d z
         n = between c d z hc hd hz ocd
 
-        go : Opposed (turn a b c) (turn a b d) ⊎ ((turn a b c ≡ pos 0) × (turn a b d ≡ pos 0)) → Opposed (turn c d a) (turn c d b) ⊎ ((turn c d a ≡ pos 0) × (turn c d b ≡ pos 0)) → Shares a b c d
-        go (inl p) (inl q) = inr (p, q)
-        go (inr e) t = inl (flat a b c d z ha hb hc hd hz na oab ocd e.0 e.1)
-        go s (inr e) = inl (exchanged a b c d (flat c d a b z hc hd ha hb hz nc ocd oab e.0 e.1))
+        go : Opposed (turn a b c) (turn a b d) ⊎ ((turn a b c ≡ pos 0) × (turn a b d ≡ pos 0)) → Opposed (turn c d a) (turn c d b) ⊎ ((turn c d a ≡ pos 0) × (turn c d b ≡ pos 0)) → Shares (segment a b) (segment c d)
+        go (inl p) (inl q) = inl (p, q)
+        go (inr e) t = inr (flat a b c d z ha hb hc hd hz na oab ocd e.0 e.1)
+        go s (inr e) = inr (exchanged (segment a b) (segment c d) (flat c d a b z hc hd ha hb hz nc ocd oab e.0 e.1))
+
+pub common_by_ends : (s t : Segment) → HasPoints s → HasPoints t → Common s t ↔ (PartEachOther s t ⊎ HaveEndOnOther s t)
+common_by_ends s t hs ht = (to_shares s.a s.b t.a t.b hs.0 hs.1 ht.0 ht.1, from_shares s.a s.b t.a t.b hs.0 hs.1 ht.0 ht.1)

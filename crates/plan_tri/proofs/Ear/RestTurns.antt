@@ -22,7 +22,7 @@ use Rattle.plan_plane.proofs.Polygon.Cut.{part_one, chain, edges_part}
 use Rattle.plan_plane.proofs.Polygon.Holding.{inside_between}
 use Rattle.plan_plane.proofs.Lists.{no_one}
 use Rattle.plan_poly.proofs.EvenOdd.Backwards.{in_polygon_back, edges_back, all_from_rev, turned}
-use Rattle.plan_poly.proofs.Least.Ready.{Ready, to_list}
+use Rattle.plan_poly.proofs.FromLeast.Ready.{Ready, to_list}
 use Rattle.plan_poly.proofs.Loop.Backwards.{reversed_is, reversed}
 use Rattle.plan_poly.proofs.Loop.Corner.{Points, points_of, AtCorner}
 use Rattle.plan_poly.proofs.Loop.Straight.{not_straight}

@@ -1,5 +1,5 @@
 -- The triangles of a simple polygon, wherever its list begins.
-use Rattle.plan_poly.proofs.Least.Ready.{to_list, split_last, ready}
+use Rattle.plan_poly.proofs.FromLeast.Ready.{to_list, split_last, ready}
 use Rattle.plan_tri.proofs.Region.Triangulated.{triangles_turned, Triangulated}
 use Rattle.plan_spec.specs.Triangulation.{from_least, triangles, triangles_within, corners}
 use Rattle.plan_spec.specs.SimplePolygon.{InPolygon, IsSimple, TurnsLeft}

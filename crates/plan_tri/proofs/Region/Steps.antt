@@ -1,6 +1,6 @@
 -- The triangles of a loop that turns left at its least vertex make up its region: by an ear, or by a cut.
 use Rattle.plan_tri.proofs.Region.Farthest.{by_distance}
-use Rattle.plan_poly.proofs.Least.Ready.{to_list, split_last, split_front, ready}
+use Rattle.plan_poly.proofs.FromLeast.Ready.{to_list, split_last, split_front, ready}
 use Rattle.std.proofs.Common.{◌≡◌, ◌≤◌, ℤ, pos, ◌≤ℤ◌, true, arith, ◌&&◌, List, [], ◌∷◌, refl, ap₂, ◌+◌, ◌++◌, append-nil, ap, ◌∙◌, ℕ, zero, suc, sym, inl, inr, ◌<ℤ◌, All, Any, Contains, Bool, false, cond, Some, length, length-append, subst, append_assoc, Option, None, get_or}
 use Rattle.std.proofs.lemmas.Bool.{and_parts, and_from, true≢false}
 use Rattle.std.proofs.lemmas.Int.{ints}
@@ -20,8 +20,8 @@ use Rattle.plan_plane.proofs.Polygon.Corner.{polygon}
 use Rattle.plan_plane.proofs.Polygon.Cut.{part_one}
 use Rattle.plan_plane.proofs.Polygon.Triangle.{held, inside_turned}
 use Rattle.plan_poly.proofs.EvenOdd.Triangle.{inside_from, from_inside}
-use Rattle.plan_poly.proofs.Least.Best.{IsBest, Found, best}
-use Rattle.plan_poly.proofs.Least.ByPlace.{from_least_is}
+use Rattle.plan_poly.proofs.FromLeast.Best.{IsBest, Found, best}
+use Rattle.plan_poly.proofs.FromLeast.ByPlace.{from_least_is}
 use Rattle.plan_poly.proofs.Loop.Corner.{AtCorner, points_of}
 use Rattle.plan_poly.proofs.Loop.Parts.{rotated}
 use Rattle.plan_tri.proofs.Cut.Cutting.{AtCut, second, after_x, before_x, Farther}

@@ -2,7 +2,6 @@
 use Rattle.std.proofs.Common.{◌≡◌, ℤ, ◌<ℤ◌, true, arith, ◌≤ℤ◌, false, ◌⊎◌, Bool, refl, ◌&&◌, inl, inr, ◌*ℤ◌, ◌||◌, ap, ap₂, ◌∙◌, sym, List, ◌∷◌, ◌++◌, All, Option, Some, None, get_or, subst, cond, []}
 use Rattle.std.proofs.lemmas.Bool.{true≢false}
 use Rattle.std.proofs.lemmas.Bool.Decides.{Decides-int_eq}
-use Rattle.std.proofs.lemmas.Int.{ints}
 use Rattle.std.proofs.lemmas.List.Elements.{All-head, All-tail, All-append}
 use Rattle.std.specs.Ordering.{int_eq}
 use Rattle.std.specs.Prelude.{int_lt}
@@ -16,16 +15,10 @@ use Rattle.plan_plane.proofs.Lists.{all_left, all_right}
 use Rattle.plan_plane.proofs.Pairs.{Pairs, pairs_right, pairs_across}
 use Rattle.plan_plane.proofs.Segment.Between.{flip}
 use Rattle.plan_plane.proofs.Segment.ByX.{leX_trans, ltX_leX, leX_ltX}
-use Rattle.plan_poly.proofs.Least.Best.{test_off, IsOrder, IsBest, AtMost, best}
+use Rattle.plan_poly.proofs.FromLeast.Best.{test_off, IsOrder, IsBest, AtMost, best}
 use Rattle.plan_poly.proofs.Loop.Loop.{Differ, differ_swapped}
 
 -- ---- the order by x, then by y
-pub lt_in : (x y : ℤ) → int_lt x y ≡ true → x <ℤ y
-lt_in x y e = omega (arith, ints)
-
-pub le_in : (x y : ℤ) → int_lt x y ≡ false → y ≤ℤ x
-le_in x y e = omega (arith, ints)
-
 -- x is not after y
 abbrev NotAfter : Vector → Vector → Type 0
 NotAfter x y = LtX x y ⊎ (SameX x y × LeY x y)
@@ -41,7 +34,7 @@ and_false : (x : Bool) → (x && false) ≡ false
 and_false true = refl
 and_false false = refl
 
-before_true : (p q : Vector) → Before p q → comes_before p q ≡ true
+pub before_true : (p q : Vector) → Before p q → comes_before p q ≡ true
 before_true p q (inl h) = ap (λ t. t || (int_eq (p.x *ℤ q.w) (q.x *ℤ p.w) && int_lt (p.y *ℤ q.w) (q.y *ℤ p.w))) (lt_true h)
 before_true p q (inr h) =
     let f = h.0 in
@@ -68,12 +61,19 @@ which p q = by (order_of (p.x *ℤ q.w) (q.x *ℤ p.w)) (order_of (p.y *ℤ q.w)
     by (is_equal e) (is_equal f) = inr (inr (sym e, omega (arith, linear)))
     by (is_equal e) (is_greater h) = inr (inr (sym e, omega (arith, linear)))
 
-before_in : (p q : Vector) → comes_before p q ≡ true → Before p q
+pub before_in : (p q : Vector) → comes_before p q ≡ true → Before p q
 before_in p q e = by (which p q)
   where
     by : Before p q ⊎ NotAfter q p → Before p q
     by (inl b) = b
     by (inr n) = absurd (true≢false (sym e ∙ after_false p q n))
+
+pub not_before : (p q : Vector) → ¬ (Before p q) → comes_before p q ≡ false
+not_before p q n = by (which p q)
+  where
+    by : Before p q ⊎ NotAfter q p → comes_before p q ≡ false
+    by (inl b) = absurd (n b)
+    by (inr h) = after_false p q h
 
 after_in : (p q : Vector) → comes_before p q ≡ false → NotAfter q p
 after_in p q e = by (which p q)

@@ -6,7 +6,7 @@ use Rattle.plan_spec.specs.Triangulation.{but_last, from_least}
 use Rattle.plan_spec.specs.Vector.{Vector, Before}
 use Rattle.plan_plane.proofs.Polygon.Corner.{polygon}
 use Rattle.plan_plane.proofs.Polygon.Cut.{whole}
-use Rattle.plan_poly.proofs.Least.ByPlace.{least}
+use Rattle.plan_poly.proofs.FromLeast.ByPlace.{least}
 use Rattle.plan_poly.proofs.Loop.Loop.{Loop}
 use Rattle.plan_poly.proofs.Loop.Parts.{rotated}
 

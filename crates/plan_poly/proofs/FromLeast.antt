@@ -3,3 +3,6 @@ pub mod Best
 pub mod ByPlace
 pub mod Ready
 pub mod Kept
+pub mod Search
+pub mod LeastSpot
+pub mod Arranged

@@ -1,0 +1,4 @@
+pub mod Edge
+pub mod FirstWrong
+pub mod Part
+pub mod Polygon
