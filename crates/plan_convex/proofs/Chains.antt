@@ -16,7 +16,7 @@ use Rattle.plan_grid.specs.Spot.{spot_seen, edge_seen, IsWithin, spots_seen, way
 use Rattle.plan_grid.proofs.Spots.{spot_path}
 use Rattle.plan_convex.proofs.Corners.{Borders, IsCorner, corner_left, borders_spot}
 use Rattle.plan_grid.proofs.Turns.{turn_cross}
-use Rattle.plan_convex.proofs.Walks.{baseline}
+use Rattle.plan_convex.proofs.Walks.{sweep_line}
 
 -- R holds of neighbours, and of the last spot and v
 abbrev pub AllSides : (Spot → Spot → Type 0) → List Spot → Spot → Type 0
@@ -55,7 +55,7 @@ end_or_left S a b u side ca cb cu = by (corner_left S a b u side.apart ca cb cu 
     by (inr (inr left)) = inr (inr (subst (λ k. pos 0 <ℤ k) (sym (turn_cross a b u)) left))
 
 -- ---- from the least vertex on
-before_from : (v u : Spot) → IsWithin 2046 v → IsWithin 2046 u → ¬ (v ≡ u) → pos 0 ≤ℤ cross baseline (way v u) → Before (spot_seen v) (spot_seen u)
+before_from : (v u : Spot) → IsWithin 2046 v → IsWithin 2046 u → ¬ (v ≡ u) → pos 0 ≤ℤ cross sweep_line (way v u) → Before (spot_seen v) (spot_seen u)
 before_from v u hv hu apart rises = by (order_of v.x u.x) (order_of v.y u.y)
   where
     by : Order v.x u.x → Order v.y u.y → Before (spot_seen v) (spot_seen u)
@@ -79,11 +79,11 @@ distinct_vectors v vs h i j d lt within =
     same_spots p q s = let e = s.0 in let f = s.1 in spot_path (omega (arith, linear)) (omega (arith, linear))
 
 -- ---- a closed chain of sides between corners is a convex polygon
-pub convex_from_sides : (S : Vector → Type 0) (v : Spot) (vs : List Spot) → Borders S v baseline → All (IsCorner S) (v ∷ vs) → All (IsWithin 2046) (v ∷ vs) → AllPairs (λ a b. ¬ (a ≡ b)) (v ∷ vs) → AllSides (IsSide S) (v ∷ vs) v → IsConvex (spots_seen (v ∷ vs))
+pub convex_from_sides : (S : Vector → Type 0) (v : Spot) (vs : List Spot) → Borders S v sweep_line → All (IsCorner S) (v ∷ vs) → All (IsWithin 2046) (v ∷ vs) → AllPairs (λ a b. ¬ (a ≡ b)) (v ∷ vs) → AllSides (IsSide S) (v ∷ vs) v → IsConvex (spots_seen (v ∷ vs))
 convex_from_sides S v vs lowest corners small distinct sides = record {
   least = All-map (Before (spot_seen v)) spot_seen vs (λ k d lt.
       before_from v (get_or vs k d) (All-head (IsWithin 2046) v vs small) (All-tail (IsWithin 2046) v vs small k d lt) (distinct 0 (suc k) d (omega arith) (omega arith))
-      (borders_spot S v baseline (get_or vs k d) lowest (All-tail (IsCorner S) v vs corners k d lt).belongs));
+      (borders_spot S v sweep_line (get_or vs k d) lowest (All-tail (IsCorner S) v vs corners k d lt).belongs));
   distinct = distinct_vectors v vs distinct;
   left = edges_from_sides (IsSide S) (IsCorner S) (λ s. All (EndOrLeft s) (spots_seen (v ∷ vs)))
       (λ a b side ca cb. All-map (EndOrLeft (edge_seen a b)) spot_seen (v ∷ vs) (All-weaker (IsCorner S) (λ u. EndOrLeft (edge_seen a b) (spot_seen u)) (λ u cu. end_or_left S a b u side ca cb cu) (v ∷ vs) corners))

@@ -19,7 +19,7 @@ use Rattle.plan_grid.proofs.FormalSpots.{coordinates, P}
 use Rattle.plan_convex.proofs.Crosses.{cross_self}
 use Rattle.plan_convex.proofs.Sums.{IsSum, borders_sum}
 use Rattle.plan_convex.proofs.Triangle.{inside_corner}
-use Rattle.plan_convex.proofs.Walks.{baseline, behind, Round, round_start, EndsFalling, IsAhead, ahead_at_start}
+use Rattle.plan_convex.proofs.Walks.{sweep_line, way_back, WalksRound, round_start, EndsFalling, IsAhead, ahead_at_start}
 
 -- the sum of the two corners
 abbrev pub vertex : Walk → Walk → Spot
@@ -33,16 +33,16 @@ stride a b a' b' = way (vertex a b) (vertex a' b')
 abbrev pub Sum : Walk → Walk → Vector → Type 0
 Sum s t = InSum (spots_seen (corners s)) (spots_seen (corners t))
 
--- how high a spot is, as far as `baseline` tells
+-- how high a spot is, as far as `sweep_line` tells
 abbrev pub height : Spot → ℤ
-height p = cross baseline p
+height p = cross sweep_line p
 
 -- a side of S rises from u
 pub record Rising (S : Vector → Type 0) (u : Spot) : Type 0 where
   pub upper : Spot
   pub belongs : S (spot_seen upper)
   pub borders : Borders S u (way u upper)
-  pub rises : pos 0 <ℤ cross baseline (way u upper)
+  pub rises : pos 0 <ℤ cross sweep_line (way u upper)
 
 -- u is lower than v, and a side rises from it
 abbrev pub IsLower : (Vector → Type 0) → Spot → Spot → Type 0
@@ -53,9 +53,9 @@ abbrev pub IsPassed : (Vector → Type 0) → Spot → Spot → Type 0
 IsPassed S v u = (height v <ℤ height u) ⊎ Rising S u
 
 -- the vertices so far are lower than the next one, while the sides rise; after that, they are passed
-pub data Course (S : Vector → Type 0) (d : Spot) (a b : Walk) (vs : List Spot) : Type 0 where
-  rising : 0 < a.edges_left → 0 < b.edges_left → pos 0 ≤ℤ cross baseline d → All (IsLower S (vertex a b)) vs → Course S d a b vs
-  falling : EndsFalling a → EndsFalling b → cross baseline d <ℤ pos 0 → All (IsPassed S (vertex a b)) vs → Course S d a b vs
+pub data RisesOrFalls (S : Vector → Type 0) (d : Spot) (a b : Walk) (vs : List Spot) : Type 0 where
+  rising : 0 < a.edges_left → 0 < b.edges_left → pos 0 ≤ℤ cross sweep_line d → All (IsLower S (vertex a b)) vs → RisesOrFalls S d a b vs
+  falling : EndsFalling a → EndsFalling b → cross sweep_line d <ℤ pos 0 → All (IsPassed S (vertex a b)) vs → RisesOrFalls S d a b vs
 
 -- the first vertex is the sum of the corners from which the walks started
 abbrev pub BeginsAt : Spot → List Spot → Type 0
@@ -65,11 +65,11 @@ BeginsAt v (u ∷ us) = u ≡ v
 -- two walks that started as s and t, and the vertices so far
 pub record IsMerge (s t a b : Walk) (vs : List Spot) : Type 0 where
   pub direction : Spot
-  pub first_round : Round s a
-  pub second_round : Round t b
+  pub first_round : WalksRound s a
+  pub second_round : WalksRound t b
   pub first_ahead : IsAhead direction a
   pub second_ahead : IsAhead direction b
-  pub course : Course (Sum s t) direction a b vs
+  pub course : RisesOrFalls (Sum s t) direction a b vs
   pub sides : AllSides (IsSide (Sum s t)) vs (vertex a b)
   pub extremes : All (IsCorner (Sum s t)) vs
   pub sums : All (IsSum (corners s) (corners t)) vs
@@ -80,7 +80,7 @@ pub record IsMerge (s t a b : Walk) (vs : List Spot) : Type 0 where
   pub at_least : 3 ≤ length vs + a.edges_left
 
 -- ---- what a pair of walks has
-pub sum_of : (s t a b : Walk) → Round s a → Round t b → IsSum (corners s) (corners t) (vertex a b)
+pub sum_of : (s t a b : Walk) → WalksRound s a → WalksRound t b → IsSum (corners s) (corners t) (vertex a b)
 sum_of s t a b ra rb =
     let rest : way a.at (vertex a b) ≡ b.at = spot_path (ring (coordinates (a.at ∷ b.at ∷ [])) (S.way (P 0) (S.plus (P 0) (P 1))).x (P 1).x tt) (ring (coordinates (a.at ∷ b.at ∷ [])) (S.way (P 0) (S.plus (P 0) (P 1))).y (P 1).y tt) in
     record {
@@ -90,11 +90,11 @@ sum_of s t a b ra rb =
     }
 
 -- a direction that both triangles are left of, as seen from the corners
-pub borders_at : (s t a b : Walk) (d : Spot) → Round s a → Round t b → (pos 0 ≤ℤ cross d (edge a)) × (pos 0 ≤ℤ cross d (behind a)) → (pos 0 ≤ℤ cross d (edge b)) × (pos 0 ≤ℤ cross d (behind b)) → Borders (Sum s t) (vertex a b) d
+pub borders_at : (s t a b : Walk) (d : Spot) → WalksRound s a → WalksRound t b → (pos 0 ≤ℤ cross d (edge a)) × (pos 0 ≤ℤ cross d (way_back a)) → (pos 0 ≤ℤ cross d (edge b)) × (pos 0 ≤ℤ cross d (way_back b)) → Borders (Sum s t) (vertex a b) d
 borders_at s t a b d ra rb ha hb x is_point i =
     borders_sum a.at a.next a.previous b.at b.next b.previous d ra.turns rb.turns ha.0 ha.1 hb.0 hb.1 x is_point (i.0, i.1, ra.same i.0 i.2, rb.same (minus x i.0) i.3)
 
-pub weakly : (d : Spot) (w : Walk) → IsAhead d w → (pos 0 ≤ℤ cross d (edge w)) × (pos 0 ≤ℤ cross d (behind w))
+pub weakly : (d : Spot) (w : Walk) → IsAhead d w → (pos 0 ≤ℤ cross d (edge w)) × (pos 0 ≤ℤ cross d (way_back w))
 weakly d w h = let n = h.next in (omega (arith, linear), h.previous)
 
 -- ---- at the start
@@ -102,12 +102,12 @@ pub merge_start : (s t : Walk) → IsStart s → IsStart t → IsMerge s t s t [
 merge_start s t hs ht =
     let ks = hs.edges in let kt = ht.edges in
     record {
-      direction = baseline;
+      direction = sweep_line;
       first_round = round_start s hs;
       second_round = round_start t ht;
       first_ahead = ahead_at_start s hs;
       second_ahead = ahead_at_start t ht;
-      course = rising (omega arith) (omega arith) (omega (arith, linear, cross_self baseline)) (All-nil (IsLower (Sum s t) (vertex s t)));
+      course = rising (omega arith) (omega arith) (omega (arith, linear, cross_self sweep_line)) (All-nil (IsLower (Sum s t) (vertex s t)));
       sides = tt;
       extremes = All-nil (IsCorner (Sum s t));
       sums = All-nil (IsSum (corners s) (corners t));

@@ -15,7 +15,7 @@ use Rattle.plan_convex.proofs.Fan.{held_by_triangle}
 use Rattle.plan_convex.proofs.Merge.{vertex, Sum, IsMerge, borders_at, weakly}
 use Rattle.plan_convex.proofs.Sums.{IsSum, sum_holds}
 use Rattle.plan_grid.proofs.Turns.{turn_beside}
-use Rattle.plan_convex.proofs.Walks.{baseline, round_start, ahead_at_start, home_again}
+use Rattle.plan_convex.proofs.Walks.{sweep_line, round_start, ahead_at_start, home_again}
 
 -- the polygon of these vertices, and what it holds
 pub record IsSumPolygon (s t : Walk) (vs : List Spot) : Type 0 where
@@ -27,8 +27,8 @@ closed s t a b u us hs ht m none =
     let S = Sum s t in
     let home : vertex a b ≡ u = ap₂ plus (home_again s a m.first_round (omega arith)) (home_again t b m.second_round (omega arith)) ∙ sym m.begins.1 in
     let sides : AllSides (IsSide S) (u ∷ us) u = subst (AllSides (IsSide S) (u ∷ us)) home m.sides in
-    let lowest : Borders S u baseline =
-    subst (λ v. Borders S v baseline) (sym m.begins.1) (borders_at s t s t baseline (round_start s hs) (round_start t ht) (weakly baseline s (ahead_at_start s hs)) (weakly baseline t (ahead_at_start t ht))) in
+    let lowest : Borders S u sweep_line =
+    subst (λ v. Borders S v sweep_line) (sym m.begins.1) (borders_at s t s t sweep_line (round_start s hs) (round_start t ht) (weakly sweep_line s (ahead_at_start s hs)) (weakly sweep_line t (ahead_at_start t ht))) in
     let convex = convex_from_sides S u us lowest m.extremes m.bounded m.distinct sides in
     let most = m.at_most in let least = m.at_least in
     let long : 3 ≤ length (u ∷ us) = omega arith in

@@ -20,28 +20,28 @@ use Rattle.plan_grid.proofs.FormalSpots as S
 use Rattle.plan_grid.proofs.FormalSpots.{coordinates, P}
 use Rattle.plan_convex.proofs.Crosses.{cross_swapped, fall_before_rise, no_way_back}
 use Rattle.plan_convex.proofs.Sums.{IsSum, sum_has}
-use Rattle.plan_convex.proofs.Walks.{baseline, Round, rises_at_home, round_taken, keeps_rising, begins_falling, goes_on_falling, ahead_after, left_before}
-use Rattle.plan_convex.proofs.Merge.{vertex, stride, Sum, height, Rising, IsLower, IsPassed, Course, rising, falling, BeginsAt, IsMerge, borders_at, weakly, sum_of}
+use Rattle.plan_convex.proofs.Walks.{sweep_line, WalksRound, rises_at_home, round_taken, keeps_rising, begins_falling, goes_on_falling, ahead_after, left_before}
+use Rattle.plan_convex.proofs.Merge.{vertex, stride, Sum, height, Rising, IsLower, IsPassed, RisesOrFalls, rising, falling, BeginsAt, IsMerge, borders_at, weakly, sum_of}
 use Rattle.plan_convex.proofs.Stride.{IsAlong, along}
 
 -- what has no edge left does not turn less than what has one
 not_after_end : (s t a b : Walk) (vs : List Spot) → IsMerge s t a b vs → a.edges_left ≡ 0 → 0 < b.edges_left → cross (edge a) (edge b) <ℤ pos 0
 not_after_end s t a b vs m none more = by m.course
   where
-    by : Course (Sum s t) m.direction a b vs → cross (edge a) (edge b) <ℤ pos 0
+    by : RisesOrFalls (Sum s t) m.direction a b vs → cross (edge a) (edge b) <ℤ pos 0
     by (rising ka kb level all) = absurd (omega arith)
     by (falling ea (inl kb) falls all) = absurd (omega arith)
     by (falling ea (inr eb) falls all) =
-        let h = fall_before_rise baseline m.direction (edge a) (edge b) falls eb (rises_at_home s a m.first_round none) m.second_ahead.next m.first_ahead.next in
+        let h = fall_before_rise sweep_line m.direction (edge a) (edge b) falls eb (rises_at_home s a m.first_round none) m.second_ahead.next m.first_ahead.next in
         omega (arith, linear, cross_swapped (edge a) (edge b))
 
 not_before_end : (s t a b : Walk) (vs : List Spot) → IsMerge s t a b vs → b.edges_left ≡ 0 → 0 < a.edges_left → pos 0 <ℤ cross (edge a) (edge b)
 not_before_end s t a b vs m none more = by m.course
   where
-    by : Course (Sum s t) m.direction a b vs → pos 0 <ℤ cross (edge a) (edge b)
+    by : RisesOrFalls (Sum s t) m.direction a b vs → pos 0 <ℤ cross (edge a) (edge b)
     by (rising ka kb level all) = absurd (omega arith)
     by (falling (inl ka) eb falls all) = absurd (omega arith)
-    by (falling (inr ea) eb falls all) = fall_before_rise baseline m.direction (edge b) (edge a) falls ea (rises_at_home t b m.second_round none) m.first_ahead.next m.second_ahead.next
+    by (falling (inr ea) eb falls all) = fall_before_rise sweep_line m.direction (edge b) (edge a) falls ea (rises_at_home t b m.second_round none) m.first_ahead.next m.second_ahead.next
 
 -- while an edge is left, the walk that is to go on has one
 pub first_may_go : (s t a b : Walk) (vs : List Spot) → IsMerge s t a b vs → 0 < a.edges_left + b.edges_left → pos 0 ≤ℤ cross (edge a) (edge b) → 0 < a.edges_left
@@ -58,8 +58,8 @@ second_may_go s t a b vs m more bend = by b.edges_left refl
     by zero e = let h = not_before_end s t a b vs m e (omega arith) in absurd (omega (arith, linear))
     by (suc n) e = omega arith
 
-height_way : (p q : Spot) → height q ≡ height p +ℤ cross baseline (way p q)
-height_way p q = ring (coordinates (p ∷ q ∷ baseline ∷ [])) (S.cross (P 2) (P 1)) (S.cross (P 2) (P 0) ⊕ S.cross (P 2) (S.way (P 0) (P 1))) tt
+height_way : (p q : Spot) → height q ≡ height p +ℤ cross sweep_line (way p q)
+height_way p q = ring (coordinates (p ∷ q ∷ sweep_line ∷ [])) (S.cross (P 2) (P 1)) (S.cross (P 2) (P 0) ⊕ S.cross (P 2) (S.way (P 0) (P 1))) tt
 
 same_height : (p q : Spot) → p ≡ q → height p ≡ height q
 same_height p q e = ap height e
@@ -89,10 +89,10 @@ module _ (s t a b a' b' : Walk) (vs : List Spot) (m : IsMerge s t a b vs) (step 
   side_is : IsAlong m.direction (stride a b a' b') a b a' b'
   side_is = along s t a b a' b' m.direction m.first_round m.second_round m.first_ahead m.second_ahead step
 
-  first_round' : Round s a'
+  first_round' : WalksRound s a'
   first_round' = round_taken s a a' (stride a b a' b') m.first_round side_is.first_taken
 
-  second_round' : Round t b'
+  second_round' : WalksRound t b'
   second_round' = round_taken t b b' (stride a b a' b') m.second_round side_is.second_taken
 
   borders : Borders (Sum s t) (vertex a b) (stride a b a' b')
@@ -111,7 +111,7 @@ module _ (s t a b a' b' : Walk) (vs : List Spot) (m : IsMerge s t a b vs) (step 
   is_new : All (λ u. ¬ (u ≡ vertex a b)) vs
   is_new = by m.course
     where
-      by : Course (Sum s t) m.direction a b vs → All (λ u. ¬ (u ≡ vertex a b)) vs
+      by : RisesOrFalls (Sum s t) m.direction a b vs → All (λ u. ¬ (u ≡ vertex a b)) vs
       by (rising ka kb level all) = All-weaker (IsLower (Sum s t) (vertex a b)) (λ u. ¬ (u ≡ vertex a b)) (λ u h same. let e = same_height u (vertex a b) same in let l = h.0 in omega (arith, linear)) vs all
       by (falling ea eb falls all) = All-weaker (IsPassed (Sum s t) (vertex a b)) (λ u. ¬ (u ≡ vertex a b)) other vs all
         where
@@ -124,16 +124,16 @@ module _ (s t a b a' b' : Walk) (vs : List Spot) (m : IsMerge s t a b vs) (step 
                   let v = vertex a b in let e = stride a b a' b' in let f = way (vertex a b) r.upper in
                   let fe = borders_spot (Sum s t) v f (vertex a' b') r.borders has_next in
                   let ef = borders_spot (Sum s t) v e r.upper borders r.belongs in
-                  no_way_back baseline m.direction f e r.rises (side_is.falls ea eb) (omega (arith, linear, cross_swapped f e)) side_is.left (borders_spot (Sum s t) v m.direction r.upper borders_before r.belongs)
+                  no_way_back sweep_line m.direction f e r.rises (side_is.falls ea eb) (omega (arith, linear, cross_swapped f e)) side_is.left (borders_spot (Sum s t) v m.direction r.upper borders_before r.belongs)
 
   -- the next vertex is higher or lower by the rise of the side
-  course' : Course (Sum s t) (stride a b a' b') a' b' (vs ++ vertex a b ∷ [])
+  course' : RisesOrFalls (Sum s t) (stride a b a' b') a' b' (vs ++ vertex a b ∷ [])
   course' = by m.course
     where
-      by : Course (Sum s t) m.direction a b vs → Course (Sum s t) (stride a b a' b') a' b' (vs ++ vertex a b ∷ [])
-      by (rising ka kb level all) = by_sign (sign_of (cross baseline (stride a b a' b')))
+      by : RisesOrFalls (Sum s t) m.direction a b vs → RisesOrFalls (Sum s t) (stride a b a' b') a' b' (vs ++ vertex a b ∷ [])
+      by (rising ka kb level all) = by_sign (sign_of (cross sweep_line (stride a b a' b')))
         where
-          by_sign : Sign (cross baseline (stride a b a' b')) → Course (Sum s t) (stride a b a' b') a' b' (vs ++ vertex a b ∷ [])
+          by_sign : Sign (cross sweep_line (stride a b a' b')) → RisesOrFalls (Sum s t) (stride a b a' b') a' b' (vs ++ vertex a b ∷ [])
           by_sign (is_zero z) = absurd (side_is.tilted z)
           by_sign (is_positive p) =
               let v = vertex a b in let v' = vertex a' b' in let e = way v v' in

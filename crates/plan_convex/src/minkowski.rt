@@ -15,12 +15,13 @@ use plan_grid::Spot;
 /// with the obstacle. Both are triangles, counterclockwise and not flat, with coordinates of at most 1023.
 ///
 /// The edges of both triangles, merged by direction, are the edges of the sum (de Berg et al., Computational Geometry,
-/// section 13.3).
+/// 3rd ed., section 13.3).
 pub fn sum(obstacle: [Spot; 3], robot: [Spot; 3]) -> Convex
     requires obstacle { IsCounterclockwise obstacle }
     requires robot { IsCounterclockwise robot }
     ensures meaning { (p : Vector) → IsPoint p → (Inside (spots_seen result) p
-        ↔ ((z : Vector) × IsPoint z × Inside (spots_seen obstacle) z × Inside (spots_seen robot) (minus z p))) }
+        ↔ ((z : Vector) × IsPoint z × Inside (spots_seen obstacle) z
+        × Inside (spots_seen robot) (minus z p))) }
 {
     merged(
         Walk::from_least(obstacle),

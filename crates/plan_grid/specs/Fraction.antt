@@ -6,6 +6,7 @@ use Rattle.std.specs.declared.cmp.Ordering.{Ordering}
 use Rattle.plan_exact.specs.Vectors.{Vector}
 use Rattle.plan_grid.specs.declared.bounds.TheConstants.{MOST_COORDINATE, MOST_DENOMINATOR}
 
+-- num / den
 pub record Fraction : Type 0 where
   pub num : ℤ
   pub den : ℤ

@@ -10,6 +10,7 @@ use Rattle.plan_grid.specs.Fraction.{Fraction, fraction_cmp}
 use Rattle.plan_grid.specs.FractionOrder.{fraction_cmp_total, fraction_cmp_from_order}
 use Rattle.plan_grid.specs.Order.{IsOrder, IsPointOrder}
 
+-- the two coordinates of a point
 abbrev pub x_of : Vector → Fraction
 x_of p = record { num = p.x; den = p.w }
 

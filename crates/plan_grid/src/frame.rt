@@ -25,7 +25,8 @@ impl Frame {
 
 // Whether `p` is left of `q` or below it, or level with it either way.
 fn is_left_or_below(p: Spot, q: Spot) -> bool
-    ensures { IsTrue result ↔ (LeX (spot_seen p) (spot_seen q) ⊎ LeY (spot_seen p) (spot_seen q)) }
+    ensures { IsTrue result
+        ↔ (LeX (spot_seen p) (spot_seen q) ⊎ LeY (spot_seen p) (spot_seen q)) }
 {
     p.x <= q.x || p.y <= q.y
 }

@@ -142,7 +142,7 @@ impl Ratio {
     }
 }
 
-/// The mediant: the fraction of the sums of the numerators and of the denominators, which lies between the two. Both
+/// The mediant: the sum of the numerators over the sum of the denominators, which lies between the two. Both
 /// denominators must be below 2^25.
 pub fn mediant(a: Ratio, b: Ratio) -> Ratio
     requires a_bounded { unsigned_abs a.den < 2 ^ 25 }

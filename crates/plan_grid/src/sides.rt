@@ -33,8 +33,8 @@ pub fn side(a: Spot, b: Spot, c: Spot) -> i128
     turn(a, b, c).get()
 }
 
-/// On which side of the line from `a` to `b`, rational points, the spot lies, whose coordinates are at most 2046 in absolute value:
-/// Greater is left of it, Equal on it and Less right of it.
+/// On which side of the line from `a` to `b`, two rational points, the spot `c` lies: Greater is left of it, Equal on
+/// it and Less right of it. The coordinates of `c` must be at most 2046 in absolute value.
 pub fn side_of(a: &Point, b: &Point, c: Spot) -> Ordering
     requires { IsWithin MOST_COORDINATE c }
     ensures { IsSign result (turn a.now b.now (spot_seen c)) }

@@ -36,7 +36,7 @@ fn half(a: Ratio, b: Ratio) -> Ratio
 }
 
 // The point with two coordinates, whose denominators are small.
-fn crossing(a: Ratio, b: Ratio) -> Point
+fn point_from(a: Ratio, b: Ratio) -> Point
     requires a_small { unsigned_abs a.den < 2 ^ 25 }
     requires b_small { unsigned_abs b.den < 2 ^ 25 }
 {
@@ -52,7 +52,7 @@ fn near(x: i8, y: i8) -> Spot
 }
 
 // The height of a segment at an x, where it reaches it.
-fn level(a: Spot, b: Spot, x: Ratio) -> Option<Ratio>
+fn height_between(a: Spot, b: Spot, x: Ratio) -> Option<Ratio>
     requires a_bounded { IsWithin MOST_COORDINATE a }
     requires b_bounded { IsWithin MOST_COORDINATE b }
 {
@@ -310,7 +310,7 @@ fn pairs_of_ratios_give_mediants_middles_and_points(rt: HostRuntime) {
         let q = ratio(&rt, b.0, b.1);
         assert!(rt; p.den() < 1 << 25);
         assert!(rt; q.den() < 1 << 25);
-        let (m, h, z) = (mediant(p, q), half(p, q), crossing(p, q));
+        let (m, h, z) = (mediant(p, q), half(p, q), point_from(p, q));
         assert_eq!(rt; (m.num(), m.den()), between, "mediant at {a:?} {b:?}");
         assert_eq!(rt; (h.num(), h.den()), mid, "middle at {a:?} {b:?}");
         assert_eq!(rt; (z.x(), z.y(), z.w()), at, "point at {a:?} {b:?}");
@@ -328,7 +328,10 @@ fn segments_have_a_height_at_each_x_between_their_ends(rt: HostRuntime) {
         (-128, 3, 127, 3, (1, 3), (3, 1)),
         (-127, -127, 127, 126, (0, 1), (-1, 2)),
     ] {
-        let y = level(near(ax, ay), near(bx, by), ratio(&rt, x.0, x.1)).map(|y| (y.num(), y.den()));
+        let y = height_between(near(ax, ay), near(bx, by), ratio(&rt, x.0, x.1)).map(|y| (
+            y.num(),
+            y.den(),
+        ));
         assert_eq!(rt; y, Some(want), "at {ax} {ay} {bx} {by}");
     }
 }

@@ -41,7 +41,8 @@ pub fn from_least(corners: [Spot; 3]) -> [Spot; 3]
 
 // Whether `p` comes before both `q` and `r`.
 fn is_first(p: Spot, q: Spot, r: Spot) -> bool
-    ensures { IsTrue result ↔ (Before (spot_seen p) (spot_seen q) × Before (spot_seen p) (spot_seen r)) }
+    ensures { IsTrue result
+        ↔ (Before (spot_seen p) (spot_seen q) × Before (spot_seen p) (spot_seen r)) }
 {
     p.is_before(q) && p.is_before(r)
 }

@@ -3,7 +3,7 @@ use Rattle.std.proofs.Common.{rules, ◌≡◌, ℕ, ℤ, pos, ◌*ℤ◌, ◌�
 use Rattle.std.specs.Int.{w128}
 use Rattle.std.specs.Int.RustNames.{int_lt, int_le}
 use Rattle.std.proofs.lemmas.Int.{ints, fits_signed_mul}
-use Rattle.plan_grid.proofs.tests.level.Goals as goal
+use Rattle.plan_grid.proofs.tests.height_between.Goals as goal
 
 not_above : (a b : ℤ) → int_lt a b ≡ false → b ≤ℤ a
 not_above a b h = grind (arith, ints)

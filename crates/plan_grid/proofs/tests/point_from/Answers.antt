@@ -4,7 +4,7 @@ use Rattle.std.proofs.lemmas.Int.{ints}
 use Rattle.std.proofs.Math.Nat.{dvd-mul_left, dvd-mul_right}
 use Rattle.plan_exact.proofs.Sizes.{product_at_most}
 use Rattle.plan_grid.proofs.Multiples.{lcm_at_most}
-use Rattle.plan_grid.proofs.tests.crossing.Goals as goal
+use Rattle.plan_grid.proofs.tests.point_from.Goals as goal
 
 pub at-requires : goal.at-requires
 at-requires c =
