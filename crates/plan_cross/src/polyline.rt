@@ -12,7 +12,7 @@ pub struct Polyline {
 
 impl Model for Polyline {
     ghost use Rattle.std.specs.Prelude.{List};
-    ghost use Rattle.plan_exact.specs.Vectors.{Vector};
+    ghost use Rattle.plan_spec.specs.Vector.{Vector};
 
     ghost Value = { List Vector };
 

@@ -1,7 +1,8 @@
 -- Beside a point that is strictly inside a polygon, points are strictly inside, on the way to any other point.
 use Rattle.std.proofs.Common.{◌≡◌, inl, ℤ, pos, ◌≤ℤ◌, ◌<ℤ◌, List, [], ◌∷◌, get_or, sym, subst}
 use Rattle.plan_exact.specs.Expr.{con}
-use Rattle.plan_exact.specs.Vectors.{Vector, cross, env}
+use Rattle.plan_exact.specs.Vectors.{cross, env}
+use Rattle.plan_spec.specs.Vector.{Vector}
 use Rattle.plan_exact.specs.Formal as F
 use Rattle.plan_exact.specs.Formal.{A, B, J}
 use Rattle.plan_exact.proofs.RingVectors.{ring_vectors}
