@@ -2,6 +2,7 @@
 #![tactic(auto)]
 
 mod answer;
+mod arguments;
 mod check;
 mod command;
 mod fault;
@@ -13,6 +14,7 @@ mod status;
 mod sum;
 mod top;
 
+pub use arguments::words_of;
 pub use command::Command;
 pub use fault::CheckFault;
 pub use no_memory::NoMemory;

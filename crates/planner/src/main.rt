@@ -1,25 +1,24 @@
 //! The planner as a program: its words, standard input and standard output, and an exit code.
 #![tactic(auto)]
 
-use plan_top::{Status, run};
+use plan_top::{NoMemory, Status, run, words_of};
 use plan_wire::{StreamSink, StreamSource};
-use std::env;
-use std::io::ErrorKind;
+use std::alloc::Global;
 use std::process::ExitCode;
+use std::{env, io};
 
 fn main(rt: HostRuntime) -> ExitCode {
     let alloc = rt.alloc();
-    let words = match env::args(&rt) {
-        Ok(words) => words.skip(1).collect(alloc),
-        // A word that is no text is in none of the forms, and neither is no word at all.
-        Err(error) if error.kind() == ErrorKind::InvalidData => Ok(Vec::new(alloc)),
-        Err(_) => return ExitCode::from(Status::NoMemory.code()),
-    };
-    let Ok(words) = words else {
-        return ExitCode::from(Status::NoMemory.code());
-    };
     let mut source = StreamSource::new(rt.stdin());
     let mut sink = StreamSink::new(rt.stdout());
-    let status = run(&rt, alloc, words.as_slice(), &mut source, &mut sink);
+    let status = match words_of(alloc, arguments(&rt, alloc)) {
+        Ok(words) => run(&rt, alloc, words.as_slice(), &mut source, &mut sink),
+        Err(NoMemory) => Status::NoMemory,
+    };
     ExitCode::from(status.code())
+}
+
+// The arguments after the program's name.
+fn arguments(rt: &HostRuntime, alloc: Global) -> io::Result<Vec<String>> {
+    Ok(env::args(rt)?.skip(1).collect(alloc)?)
 }

@@ -1,4 +1,4 @@
-use crate::calls::{expect, told, told_from, words_of};
+use crate::calls::{before, expect, told, told_from, words_of};
 use crate::documents::one_point;
 use plan_wire::{Source, SteadySource};
 use std::test::Fail;
@@ -32,15 +32,16 @@ demo|1001|1=1 "usage: planner plan N | session N | check | demo K N\n"
 demo|1=1 "usage: planner plan N | session N | check | demo K N\n""#;
 
 #[test]
-fn the_words(rt: HostRuntime) -> Result<(), Fail> {
+fn words_of_the_four_forms_are_answered_and_all_others_are_usage(
+    rt: HostRuntime,
+) -> Result<(), Fail> {
     let alloc = rt.alloc();
     let text = one_point(alloc)?;
     for row in WORDS.lines() {
-        if let Some((words, expected)) = row.split_once('=') {
-            let words = words_of(alloc, words)?;
-            let told = told(&rt, alloc, words.as_slice(), text.as_bytes())?;
-            expect(&rt, &told, expected, row);
-        }
+        let (words, expected) = before(row, '=')?;
+        let words = words_of(alloc, words)?;
+        let told = told(&rt, alloc, words.as_slice(), text.as_bytes())?;
+        expect(&rt, &told, expected, row);
     }
     let told = told(&rt, alloc, &[], text.as_bytes())?;
     let usage = r#"1 "usage: planner plan N | session N | check | demo K N\n""#;
@@ -48,9 +49,8 @@ fn the_words(rt: HostRuntime) -> Result<(), Fail> {
     Ok(())
 }
 
-// What is not `check` leaves its source alone, and `check` reads it to the end.
 #[test]
-fn what_is_read(rt: HostRuntime) -> Result<(), Fail> {
+fn check_alone_reads_its_source_and_reads_it_to_the_end(rt: HostRuntime) -> Result<(), Fail> {
     let alloc = rt.alloc();
     for (words, left) in [("plan|3", 7), ("demo|1|1", 7), ("plan|0", 7), ("check", 0)] {
         let mut source = SteadySource::new(b"{\"a\":1}".to_vec(alloc)?);

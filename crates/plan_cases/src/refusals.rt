@@ -1,4 +1,4 @@
-use crate::calls::{column, expect, told, words_of};
+use crate::calls::{before, column, expect, told, words_of};
 use crate::documents::document;
 use std::test::Fail;
 
@@ -24,7 +24,7 @@ const LATER: &str =
 [[0,0],[1,0],[0,1]] [] {"path":[[2,2,1]]"#;
 
 #[test]
-fn what_is_no_first_document(rt: HostRuntime) -> Result<(), Fail> {
+fn documents_of_another_form_are_answered_later(rt: HostRuntime) -> Result<(), Fail> {
     let alloc = rt.alloc();
     let words = words_of(alloc, "check")?;
     for row in LATER.lines() {
@@ -49,14 +49,15 @@ const TEXTS: &str = r#"2 "refused: later\n"=
 2 "refused: later\n"={"format":1,"frame":[20,0,0,20],"robot":[[0,0],[1,0],[0,1]],"obstacles":[],"query":[2,2,2,2],"certificate":{"path":[[2,2,1]]}}"#;
 
 #[test]
-fn texts(rt: HostRuntime) -> Result<(), Fail> {
+fn members_come_in_any_order_and_bytes_of_no_document_are_answered_later(
+    rt: HostRuntime,
+) -> Result<(), Fail> {
     let alloc = rt.alloc();
     let words = words_of(alloc, "check")?;
     for row in TEXTS.lines() {
-        if let Some((expected, text)) = row.split_once('=') {
-            let told = told(&rt, alloc, words.as_slice(), text.as_bytes())?;
-            expect(&rt, &told, expected, row);
-        }
+        let (expected, text) = before(row, '=')?;
+        let told = told(&rt, alloc, words.as_slice(), text.as_bytes())?;
+        expect(&rt, &told, expected, row);
     }
     // Bytes that are no text.
     let told = told(&rt, alloc, words.as_slice(), &[34, 255, 34])?;

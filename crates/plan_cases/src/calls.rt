@@ -56,7 +56,12 @@ pub fn words_of(alloc: Global, text: &str) -> Result<Vec<String>, Fail> {
 
 /// The first column of a row, and what is behind it.
 pub fn column(row: &str) -> Result<(&str, &str), Fail> {
-    match row.split_once(' ') {
+    before(row, ' ')
+}
+
+/// What is before the mark, and what is behind it.
+pub fn before(row: &str, mark: char) -> Result<(&str, &str), Fail> {
+    match row.split_once(mark) {
         Some(columns) => Ok(columns),
         None => Err(Fail::from("a column is missing")),
     }

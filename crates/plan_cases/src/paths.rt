@@ -62,7 +62,7 @@ const IN_THE_FRAME: &str = r#"[0,2,2,2] [[0,2,1],[2,2,1]] 6 "invalid: touches 0\
 [2,2,2,2] [[2,2,1],[2,18,1],[30,18,1],[2,2,1]] 6 "invalid: touches 1\n""#;
 
 #[test]
-fn the_spike_and_the_frame(rt: HostRuntime) -> Result<(), Fail> {
+fn a_path_is_checked_against_an_obstacle_and_the_frame(rt: HostRuntime) -> Result<(), Fail> {
     let alloc = rt.alloc();
     answers(&rt, alloc, CORNER, SPIKE, BY_THE_SPIKE)?;
     answers(&rt, alloc, CORNER, "[]", IN_THE_FRAME)
@@ -74,7 +74,7 @@ const TURNED_CORNER: &str = "[[0,1],[1,0],[0,0]]";
 const TURNED_SPIKE: &str = r#"[{"id":1,"shape":[[9,10],[11,-5],[9,-5]]}]"#;
 
 #[test]
-fn the_direction_of_turning(rt: HostRuntime) -> Result<(), Fail> {
+fn the_direction_in_which_corners_come_changes_nothing(rt: HostRuntime) -> Result<(), Fail> {
     let alloc = rt.alloc();
     answers(&rt, alloc, CORNER, TURNED_SPIKE, BY_THE_SPIKE)?;
     answers(&rt, alloc, TURNED_CORNER, SPIKE, BY_THE_SPIKE)?;
@@ -108,7 +108,7 @@ const FAR_BY_THE_SPIKE: &str =
 [-4,-4,10,-4] [[-4,-4,1],[10,-4,1]] 6 "invalid: touches 0\n""#;
 
 #[test]
-fn robots_that_are_not_symmetric(rt: HostRuntime) -> Result<(), Fail> {
+fn a_robot_touches_with_the_side_that_reaches_out(rt: HostRuntime) -> Result<(), Fail> {
     let alloc = rt.alloc();
     answers(&rt, alloc, LONG, WALL, BY_THE_WALL)?;
     answers(&rt, alloc, LEFT, "[]", LEFT_IN_THE_FRAME)?;
@@ -134,7 +134,7 @@ const BY_THE_SHELVES: &str =
 [1,2,1,18] [[1,2,1],[1,18,1]] 0 "valid\n""#;
 
 #[test]
-fn other_obstacles(rt: HostRuntime) -> Result<(), Fail> {
+fn the_first_segment_that_touches_any_obstacle_is_told(rt: HostRuntime) -> Result<(), Fail> {
     let alloc = rt.alloc();
     answers(&rt, alloc, CORNER, ROCK, BY_THE_ROCK)?;
     answers(&rt, alloc, CORNER, SHELVES, BY_THE_SHELVES)

@@ -3,10 +3,10 @@ use crate::documents::{CORNER, SPIKE, document, one_point};
 use std::alloc::{AllocError, Global};
 use std::test::Fail;
 
-// A path of 200 points: to and fro between two, and then to the last.
-fn to_and_fro(alloc: Global, last: &str) -> Result<String, AllocError> {
+// A path that goes to and fro between two points so many times, and then to the last.
+fn to_and_fro(alloc: Global, times: u32, last: &str) -> Result<String, AllocError> {
     let mut path = String::from_str(alloc, "{\"path\":[[2,2,1]")?;
-    for _ in 0..99 {
+    for _ in 0..times {
         path.push_str(",[2,3,1],[2,2,1]")?;
     }
     path.push_str(last)?;
@@ -15,14 +15,28 @@ fn to_and_fro(alloc: Global, last: &str) -> Result<String, AllocError> {
 }
 
 #[test]
-fn two_hundred_points(rt: HostRuntime) -> Result<(), Fail> {
+fn paths_of_200_and_of_100_002_points_are_checked_to_the_last_segment(
+    rt: HostRuntime,
+) -> Result<(), Fail> {
     let alloc = rt.alloc();
     let words = words_of(alloc, "check")?;
-    for (query, last, expected) in [
-        ("[2,2,2,15]", ",[2,15,1]", r#"0 "valid\n""#),
-        ("[2,2,15,2]", ",[15,2,1]", r#"6 "invalid: touches 198\n""#),
+    for (times, query, last, expected) in [
+        (99, "[2,2,2,15]", ",[2,15,1]", r#"0 "valid\n""#),
+        (
+            99,
+            "[2,2,15,2]",
+            ",[15,2,1]",
+            r#"6 "invalid: touches 198\n""#,
+        ),
+        (50_000, "[2,2,2,15]", ",[2,15,1]", r#"0 "valid\n""#),
+        (
+            50_000,
+            "[2,2,15,2]",
+            ",[15,2,1]",
+            r#"6 "invalid: touches 100000\n""#,
+        ),
     ] {
-        let certificate = to_and_fro(alloc, last)?;
+        let certificate = to_and_fro(alloc, times, last)?;
         let text = document(alloc, CORNER, SPIKE, query, certificate.as_str())?;
         let told = told(&rt, alloc, words.as_slice(), text.as_bytes())?;
         expect(&rt, &told, expected, last);
@@ -45,7 +59,7 @@ fn row_of_obstacles(alloc: Global, count: u32) -> Result<String, AllocError> {
 }
 
 #[test]
-fn sixty_four_obstacles(rt: HostRuntime) -> Result<(), Fail> {
+fn a_path_is_checked_among_sixty_four_obstacles(rt: HostRuntime) -> Result<(), Fail> {
     let alloc = rt.alloc();
     let words = words_of(alloc, "check")?;
     for (count, expected) in [(64, r#"0 "valid\n""#), (65, r#"2 "refused: later\n""#)] {
@@ -60,7 +74,7 @@ fn sixty_four_obstacles(rt: HostRuntime) -> Result<(), Fail> {
 
 // Spaces behind a document count as bytes of it.
 #[test]
-fn the_most_bytes(rt: HostRuntime) -> Result<(), Fail> {
+fn a_document_of_the_greatest_length_is_checked(rt: HostRuntime) -> Result<(), Fail> {
     let alloc = rt.alloc();
     let words = words_of(alloc, "check")?;
     let text = one_point(alloc)?;

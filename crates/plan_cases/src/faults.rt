@@ -16,7 +16,7 @@ const SOURCES: &str = r#"1000 1 3 ""
 1 168 0 "valid\n""#;
 
 #[test]
-fn sources_that_fail(rt: HostRuntime) -> Result<(), Fail> {
+fn a_source_that_fails_before_its_end_is_a_read_fault(rt: HostRuntime) -> Result<(), Fail> {
     let alloc = rt.alloc();
     let text = one_point(alloc)?;
     let words = words_of(alloc, "check")?;
@@ -48,7 +48,7 @@ chek 100 100 1 4 ""
 chek 6 100 1000 4 "usage:""#;
 
 #[test]
-fn sinks_that_fail(rt: HostRuntime) -> Result<(), Fail> {
+fn a_sink_that_fails_leaves_a_front_of_the_line(rt: HostRuntime) -> Result<(), Fail> {
     let alloc = rt.alloc();
     let text = one_point(alloc)?;
     for row in SINKS.lines() {
