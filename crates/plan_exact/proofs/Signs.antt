@@ -229,13 +229,3 @@ pub zero_of_mul_left : (a b : ℤ) → a ≡ pos 0 → a *ℤ b ≡ pos 0
 zero_of_mul_left a b h = mul_comm a b ∙ mul_of_zero b a h
 
 pub ruleset zeros = (add_zeros, mul_of_zero, zero_of_mul_left)
-
--- ---- earlier names, which go when nothing cites them: `le_of_lt`, and `le_or_lt (pos 0)`
-pub nonneg_of_pos : {a : ℤ} → pos 0 <ℤ a → pos 0 ≤ℤ a
-nonneg_of_pos h = le_of_lt h
-
-pub weaken : {a b : ℤ} → a <ℤ b → a ≤ℤ b
-weaken h = le_of_lt h
-
-pub nonneg_or_neg : (a : ℤ) → (pos 0 ≤ℤ a) ⊎ (a <ℤ pos 0)
-nonneg_or_neg a = le_or_lt (pos 0) a

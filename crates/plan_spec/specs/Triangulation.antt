@@ -1,5 +1,6 @@
--- The triangles of a simple polygon that runs counterclockwise, as a function: at the least vertex an ear is cut off, or the polygon is cut
--- to the vertex in the ear that is farthest from the line through the two neighbours (the book's 3.1).
+-- The triangles of a simple polygon that runs counterclockwise, as a function: at the least vertex an ear is cut off, or the polygon
+-- is cut to the vertex in the ear that is farthest from the line through the two neighbours (de Berg, Cheong, van Kreveld, Overmars,
+-- Computational Geometry, 3rd edition, 3.1).
 use Rattle.std.specs.Prelude.{ℕ, zero, suc, pos, ◌*ℤ◌, Bool, true, false, ◌&&◌, ◌||◌, List, [], ◌∷◌, ◌++◌, Option, Some, None, length, int_lt, int_le, if◌then◌else◌}
 use Rattle.std.specs.Ordering.{int_eq}
 use Rattle.plan_spec.specs.Vector.{Vector, turn}
