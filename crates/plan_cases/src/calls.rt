@@ -13,11 +13,11 @@ pub fn told<R: Threads + Sync>(
     bytes: &[u8],
 ) -> Result<String, Fail> {
     let mut source = SteadySource::new(bytes.to_vec(alloc)?);
-    told_from(rt, alloc, words, &mut source)
+    answer_from(rt, alloc, words, &mut source)
 }
 
 /// The same over a source.
-pub fn told_from<R: Threads + Sync, S: Source>(
+pub fn answer_from<R: Threads + Sync, S: Source>(
     rt: &R,
     alloc: Global,
     words: &[String],

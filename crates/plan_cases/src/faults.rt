@@ -1,4 +1,4 @@
-use crate::calls::{code_of, column, expect, number, told_from, words_of, written};
+use crate::calls::{answer_from, code_of, column, expect, number, words_of, written};
 use crate::documents::one_point;
 use plan_wire::{MemorySink, MemorySource};
 use std::test::Fail;
@@ -26,7 +26,7 @@ fn a_source_that_fails_before_its_end_is_a_read_fault(rt: HostRuntime) -> Result
         if piece > 0 {
             let bytes = text.as_bytes().to_vec(alloc)?;
             let mut source = MemorySource::new(bytes, piece, vec![in alloc; call]?);
-            let told = told_from(&rt, alloc, words.as_slice(), &mut source)?;
+            let told = answer_from(&rt, alloc, words.as_slice(), &mut source)?;
             expect(&rt, &told, expected, row);
         }
     }

@@ -1,4 +1,4 @@
-use crate::calls::{column, expect, told, words_of};
+use crate::calls::{answer_to, column, expect, words_of};
 use crate::documents::{CORNER, SPIKE, document};
 use std::alloc::Global;
 use std::process::Abort;
@@ -19,7 +19,7 @@ fn answers<R: Threads + Sync + Abort>(
         let (path, expected) = column(rest)?;
         let certificate = format!(in alloc; "{{\"path\":{path}}}")?;
         let text = document(alloc, robot, obstacles, query, certificate.as_str())?;
-        let told = told(rt, alloc, words.as_slice(), text.as_bytes())?;
+        let told = answer_to(rt, alloc, words.as_slice(), text.as_bytes())?;
         expect(rt, &told, expected, row);
     }
     Ok(())

@@ -1,4 +1,4 @@
-use crate::calls::{before, column, expect, told, words_of};
+use crate::calls::{answer_to, before, column, expect, words_of};
 use crate::documents::document;
 use std::test::Fail;
 
@@ -31,7 +31,7 @@ fn documents_of_another_form_are_answered_later(rt: HostRuntime) -> Result<(), F
         let (robot, rest) = column(row)?;
         let (obstacles, certificate) = column(rest)?;
         let text = document(alloc, robot, obstacles, "[2,2,2,2]", certificate)?;
-        let told = told(&rt, alloc, words.as_slice(), text.as_bytes())?;
+        let told = answer_to(&rt, alloc, words.as_slice(), text.as_bytes())?;
         expect(&rt, &told, r#"2 "refused: later\n""#, row);
     }
     Ok(())
@@ -56,11 +56,11 @@ fn members_come_in_any_order_and_bytes_of_no_document_are_answered_later(
     let words = words_of(alloc, "check")?;
     for row in TEXTS.lines() {
         let (expected, text) = before(row, '=')?;
-        let told = told(&rt, alloc, words.as_slice(), text.as_bytes())?;
+        let told = answer_to(&rt, alloc, words.as_slice(), text.as_bytes())?;
         expect(&rt, &told, expected, row);
     }
     // Bytes that are no text.
-    let told = told(&rt, alloc, words.as_slice(), &[34, 255, 34])?;
+    let told = answer_to(&rt, alloc, words.as_slice(), &[34, 255, 34])?;
     expect(&rt, &told, r#"2 "refused: later\n""#, "no UTF-8");
     Ok(())
 }

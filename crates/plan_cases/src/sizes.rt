@@ -1,4 +1,4 @@
-use crate::calls::{expect, told, words_of};
+use crate::calls::{answer_to, expect, words_of};
 use crate::documents::{CORNER, SPIKE, document, one_point};
 use std::alloc::{AllocError, Global};
 use std::test::Fail;
@@ -38,7 +38,7 @@ fn paths_of_200_and_of_100_002_points_are_checked_to_the_last_segment(
     ] {
         let certificate = to_and_fro(alloc, times, last)?;
         let text = document(alloc, CORNER, SPIKE, query, certificate.as_str())?;
-        let told = told(&rt, alloc, words.as_slice(), text.as_bytes())?;
+        let told = answer_to(&rt, alloc, words.as_slice(), text.as_bytes())?;
         expect(&rt, &told, expected, last);
     }
     Ok(())
@@ -66,7 +66,7 @@ fn a_path_is_checked_among_sixty_four_obstacles(rt: HostRuntime) -> Result<(), F
         let obstacles = row_of_obstacles(alloc, count)?;
         let certificate = "{\"path\":[[2,2,1]]}";
         let text = document(alloc, CORNER, obstacles.as_str(), "[2,2,2,2]", certificate)?;
-        let told = told(&rt, alloc, words.as_slice(), text.as_bytes())?;
+        let told = answer_to(&rt, alloc, words.as_slice(), text.as_bytes())?;
         expect(&rt, &told, expected, "obstacles");
     }
     Ok(())
@@ -84,7 +84,7 @@ fn a_document_of_the_greatest_length_is_checked(rt: HostRuntime) -> Result<(), F
     ] {
         let mut bytes = text.as_bytes().to_vec(alloc)?;
         bytes.resize(size, b' ')?;
-        let told = told(&rt, alloc, words.as_slice(), bytes.as_slice())?;
+        let told = answer_to(&rt, alloc, words.as_slice(), bytes.as_slice())?;
         expect(&rt, &told, expected, "bytes");
     }
     Ok(())

@@ -1,4 +1,4 @@
-use crate::calls::{before, expect, told, told_from, words_of};
+use crate::calls::{answer_from, answer_to, before, expect, words_of};
 use crate::documents::one_point;
 use plan_wire::{Source, SteadySource};
 use std::test::Fail;
@@ -40,10 +40,10 @@ fn words_of_the_four_forms_are_answered_and_all_others_are_usage(
     for row in WORDS.lines() {
         let (words, expected) = before(row, '=')?;
         let words = words_of(alloc, words)?;
-        let told = told(&rt, alloc, words.as_slice(), text.as_bytes())?;
+        let told = answer_to(&rt, alloc, words.as_slice(), text.as_bytes())?;
         expect(&rt, &told, expected, row);
     }
-    let told = told(&rt, alloc, &[], text.as_bytes())?;
+    let told = answer_to(&rt, alloc, &[], text.as_bytes())?;
     let usage = r#"1 "usage: planner plan N | session N | check | demo K N\n""#;
     expect(&rt, &told, usage, "no words");
     Ok(())
@@ -55,7 +55,7 @@ fn check_alone_reads_its_source_and_reads_it_to_the_end(rt: HostRuntime) -> Resu
     for (words, left) in [("plan|3", 7), ("demo|1|1", 7), ("plan|0", 7), ("check", 0)] {
         let mut source = SteadySource::new(b"{\"a\":1}".to_vec(alloc)?);
         let all = words_of(alloc, words)?;
-        told_from(&rt, alloc, all.as_slice(), &mut source)?;
+        answer_from(&rt, alloc, all.as_slice(), &mut source)?;
         let mut room = [0u8; 8];
         assert_eq!(rt; source.read(&mut room)?, left, "{words}");
     }

@@ -1,5 +1,6 @@
 -- The words that call the program: plan N, session N, check, or demo K N, with N from 1 to 16 and K from 1 to 1000.
-use Rattle.std.specs.Prelude.{ℕ, ◌+◌, ◌-◌, ◌*◌, ◌==◌, ◌&&◌, Bool, nat_le, List, [], ◌∷◌, codes, Option, Some, None, option_map, option_and_then, if◌then◌else◌}
+use Rattle.std.specs.Prelude.{ℕ, ◌+◌, ◌-◌, ◌*◌, ◌==◌, ◌&&◌, Bool, nat_le, List, [], ◌∷◌, codes}
+use Rattle.std.specs.Prelude.{Option, Some, None, option_map, option_and_then, if◌then◌else◌}
 use Rattle.std.specs.Str.{bytes_eq}
 use Rattle.plan_top.specs.declared.command.Command.{Command}
 use Rattle.plan_top.specs.declared.command.Command.TheVariants.{Plan, Session, Check, Demo}

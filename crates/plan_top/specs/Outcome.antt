@@ -41,11 +41,15 @@ IsReadToEnd told left = IfSome told (λ _. left ≡ Some [])
 
 -- what `check` did, by its status: to the bytes of the source and what is left of them, and to the bytes of the sink before and after
 abbrev pub CheckOutcome : Told → Told → Told → Told → Status → Type 0
-CheckOutcome told left before after Done = IsAnswer told Done × IsReadToEnd told left × Appends before after (line_of Done)
-CheckOutcome told left before after (Invalid fault) = IsAnswer told (Invalid fault) × IsReadToEnd told left × Appends before after (line_of (Invalid fault))
-CheckOutcome told left before after (Refused refusal) = IsAnswer told (Refused refusal) × Appends before after (line_of (Refused refusal))
+CheckOutcome told left before after Done =
+    IsAnswer told Done × IsReadToEnd told left × Appends before after (line_of Done)
+CheckOutcome told left before after (Invalid fault) =
+    IsAnswer told (Invalid fault) × IsReadToEnd told left × Appends before after (line_of (Invalid fault))
+CheckOutcome told left before after (Refused refusal) =
+    IsAnswer told (Refused refusal) × Appends before after (line_of (Refused refusal))
 CheckOutcome told left before after ReadFault = after ≡ before
-CheckOutcome told left before after WriteFault = (answer : Status) × IsAnswer told answer × AppendsPart before after (line_of answer)
+CheckOutcome told left before after WriteFault =
+    (answer : Status) × IsAnswer told answer × AppendsPart before after (line_of answer)
 CheckOutcome told left before after NoMemory = after ≡ before
 CheckOutcome told left before after Usage = ⊥
 
@@ -67,12 +71,12 @@ Outcome (Some (Plan _)) told left before after status = LineOutcome (Refused Lat
 Outcome (Some (Session _)) told left before after status = LineOutcome (Refused Later) before after status
 Outcome (Some (Demo _ _)) told left before after status = LineOutcome (Refused Later) before after status
 
--- the source's count of faults rises where the status is a read fault, as a failure of this source raises it, and stays under every other
+-- the source's count of faults rises where the status is a read fault, as a failure of the source raises it, and stays under every other status
 abbrev pub SourceCount : (ℕ → ℕ → Type 0) → ℕ → ℕ → Status → Type 0
 SourceCount rises before after ReadFault = rises before after
 SourceCount rises before after _ = after ≡ before
 
--- the sink's count rises where the status is a write fault, and stays under every other
+-- the sink's count rises where the status is a write fault, and stays under every other status
 abbrev pub SinkCount : (ℕ → ℕ → Type 0) → ℕ → ℕ → Status → Type 0
 SinkCount rises before after WriteFault = rises before after
 SinkCount rises before after _ = after ≡ before

@@ -9,15 +9,16 @@ ghost use Rattle.plan_top.specs.Check.{LegTouches, IsFirstLeg};
 
 use crate::fault::CheckFault;
 use crate::scene::Scene;
-use plan_grid::Spot;
+use plan_grid::{MOST_COORDINATE, Spot};
 
 /// The first fault of the path, or none where it is a clear polyline from start to goal.
 pub fn check(scene: &Scene, start: Spot, goal: Spot, path: &[Spot]) -> Option<CheckFault>
     requires few { length path.now < 2 ^ 32 }
-    requires bounded { All (IsWithin 2046) path.now }
+    requires bounded { All (IsWithin MOST_COORDINATE) path.now }
     ensures { (s : placement.Scene) → IsSceneOf s scene.now → MatchOption result
         (IsClearPolyline s (spot_seen start) (spot_seen goal) (spots_seen path.now))
-        (λ fault. IsFirstFault s (spot_seen start) (spot_seen goal) (spots_seen path.now) (fault_seen fault)) }
+        (λ fault.
+        IsFirstFault s (spot_seen start) (spot_seen goal) (spots_seen path.now) (fault_seen fault)) }
 {
     if path.is_empty() {
         return Some(CheckFault::EmptyPath);
@@ -38,7 +39,7 @@ pub fn check(scene: &Scene, start: Spot, goal: Spot, path: &[Spot]) -> Option<Ch
 fn first_touching(scene: &Scene, path: &[Spot]) -> Option<u32>
     requires some { 0 < length path.now }
     requires few { length path.now < 2 ^ 32 }
-    requires bounded { All (IsWithin 2046) path.now }
+    requires bounded { All (IsWithin MOST_COORDINATE) path.now }
     ensures { MatchOption result
         (All (λ s. ¬ (LegTouches scene.now s)) (legs (spots_seen path.now)))
         (IsFirstLeg (LegTouches scene.now) (legs (spots_seen path.now))) }
@@ -54,8 +55,8 @@ fn first_touching(scene: &Scene, path: &[Spot]) -> Option<u32>
 
 // Whether the segment from `a` to `b` touches.
 fn touches(scene: &Scene, a: Spot, b: Spot) -> bool
-    requires a_bounded { IsWithin 2046 a }
-    requires b_bounded { IsWithin 2046 b }
+    requires a_bounded { IsWithin MOST_COORDINATE a }
+    requires b_bounded { IsWithin MOST_COORDINATE b }
     ensures { IsTrue result ↔ LegTouches scene.now (edge_seen a b) }
 {
     if scene.room.is_on_or_beyond(a) {

@@ -14,10 +14,10 @@ pub enum Command {
     Demo(u16, u16),
 }
 
-/// The greatest number of workers.
+// The greatest number of workers.
 const MOST_WORKERS: u16 = 16;
 
-/// The greatest number of a generated document.
+// The greatest number of a generated document.
 const MOST_DEMOS: u16 = 1000;
 
 /// The command of the words after the program's name, where they have one of the four forms.
@@ -26,7 +26,7 @@ pub fn command_of(words: &[String]) -> Option<Command>
 {
     match words {
         [verb] if verb.as_str() == "check" => Some(Command::Check),
-        [verb, workers] => of_two(verb.as_str(), workers.as_str()),
+        [verb, workers] => with_workers(verb.as_str(), workers.as_str()),
         [verb, number, workers] if verb.as_str() == "demo" => {
             let number = number_up_to(MOST_DEMOS, number.as_str())?;
             let workers = number_up_to(MOST_WORKERS, workers.as_str())?;
@@ -36,7 +36,8 @@ pub fn command_of(words: &[String]) -> Option<Command>
     }
 }
 
-fn of_two(verb: &str, workers: &str) -> Option<Command>
+// The command of a verb and a number of workers.
+fn with_workers(verb: &str, workers: &str) -> Option<Command>
     ensures { result ≡ command_of (verb.now ∷ workers.now ∷ []) }
 {
     match verb {
@@ -46,7 +47,7 @@ fn of_two(verb: &str, workers: &str) -> Option<Command>
     }
 }
 
-/// The number that the word writes in decimal digits, without sign or leading zero, from 1 to the limit.
+// The number that the word writes in decimal digits, without sign or leading zero, from 1 to the limit.
 fn number_up_to(limit: u16, word: &str) -> Option<u16>
     requires { limit ≤ 1000 }
     ensures { result ≡ number_up_to limit word.now }
@@ -57,7 +58,7 @@ fn number_up_to(limit: u16, word: &str) -> Option<u16>
     }
 }
 
-/// The number that the digits write, where it is at most the limit.
+// The number that the digits write, where it is at most the limit.
 fn value_up_to(limit: u16, digits: &[u8]) -> Option<u16>
     requires { limit ≤ 1000 }
     ensures { result ≡ option_and_then (at_most limit) (with_digits 0 digits.now) }

@@ -4,7 +4,7 @@ ghost use Rattle.plan_top.specs.Lines.{line_of};
 use crate::status::{Refusal, Status};
 use std::alloc::{AllocError, Global};
 
-/// The line of a path that runs clear.
+// The line of a path that runs clear.
 const VALID: &str = "valid\n";
 
 /// The line of a command or a document that is not answered yet.

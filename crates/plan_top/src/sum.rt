@@ -4,7 +4,7 @@ ghost use Rattle.plan_spec.specs.Polygon.{Inside};
 ghost use Rattle.plan_spec.specs.Segment.{AnyOn};
 
 use plan_convex::{Convex, are_apart, bounds, edge_bounds};
-use plan_grid::{Frame, Point, Spot};
+use plan_grid::{Frame, MOST_COORDINATE, Point, Spot};
 use std::marker::Model;
 
 /// The sum of an obstacle with the reflected robot, and its bounding box.
@@ -39,8 +39,8 @@ impl Sum {
     ///
     /// Where their boxes are apart, so are the segment and the polygon; most segments are tested no further.
     pub fn meets(&self, a: Spot, b: Spot) -> bool
-        requires a_bounded { IsWithin 2046 a }
-        requires b_bounded { IsWithin 2046 b }
+        requires a_bounded { IsWithin MOST_COORDINATE a }
+        requires b_bounded { IsWithin MOST_COORDINATE b }
         ensures { IsTrue result ↔ AnyOn (Inside (spots_seen self.now)) (edge_seen a b) }
     {
         prove!(self.polygon.spots().len() >= 3);
