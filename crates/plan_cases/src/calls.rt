@@ -6,7 +6,7 @@ use std::test::Fail;
 use std::thread::Threads;
 
 /// Calls the planner, and gives its code and what it wrote, as `0 "valid\n"`.
-pub fn told<R: Threads + Sync>(
+pub fn answer_to<R: Threads + Sync>(
     rt: &R,
     alloc: Global,
     words: &[String],
