@@ -22,3 +22,4 @@ pub mod Spans
 pub mod EdgeNumbers
 pub mod Apart
 mod BoxOfSpots
+pub mod Means

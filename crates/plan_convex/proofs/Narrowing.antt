@@ -1,14 +1,15 @@
 -- A value that is linear along an edge is positive, or not negative, on one side of the place where it passes 0; so what is left of a part is a part.
 use Rattle.std.proofs.Common.{◌≡◌, ◌↔◌, inl, inr, ℤ, pos, ◌+ℤ◌, ◌-ℤ◌, ◌*ℤ◌, neg_ℤ, ◌≤ℤ◌, ◌<ℤ◌, Bool, true, false, cond, Some, None, [], ◌∷◌, refl, arith}
 use Rattle.plan_exact.specs.Expr.{var, ◌⊕◌, ◌⊖◌, ◌⊗◌, neg}
-use Rattle.plan_exact.proofs.Laws.{linear}
+use Rattle.plan_exact.specs.Sign.{is_negative, is_zero, is_positive}
+use Rattle.plan_exact.proofs.Laws.{linear, one_mul, zero_mul}
 use Rattle.plan_exact.proofs.Ring.{ring}
-use Rattle.plan_exact.proofs.Signs.{mul_pos, mul_nonneg, mul_nonneg_nonpos, le_of_lt, le_or_lt}
+use Rattle.plan_exact.proofs.Signs.{mul_pos, mul_nonneg, mul_nonneg_nonpos, mul_pos_neg, zero_of_mul_left, sign_of, weaken, le_of_lt, le_or_lt}
 use Rattle.plan_spec.specs.Weights.{Weights, IsInner}
 use Rattle.plan_grid.specs.Fraction.{Fraction}
 use Rattle.plan_convex.specs.declared.part.Part.{Part}
 use Rattle.plan_convex.specs.Parameter.{AtMost, Less, at_most, balance, fraction_at}
-use Rattle.plan_convex.specs.Part.{InOpen, InClosed, from_later, to_earlier, value_at, IsWherePositive}
+use Rattle.plan_convex.specs.Part.{InOpen, InClosed, from_later, to_earlier, value_at, nowhere, IsWherePositive, IsWhereNotNegative}
 use Rattle.plan_convex.proofs.Fractions.{IsFraction, at_most_trans, less_at_most, at_most_less, weak, at_most_true, at_most_false}
 
 -- ---- where the value passes 0
@@ -86,3 +87,28 @@ not_negative a h = elim (le_or_lt (pos 0) a) [
   | inl k ↦ k
   | inr k ↦ let e = h k in absurd (cc)
 ]
+
+-- ---- where the value is not negative
+pub rises_not_negative : (p : Part) (a b : ℤ) → IsFraction p.from → a <ℤ pos 0 → pos 0 ≤ℤ b → IsWhereNotNegative p a b (from_later p (balance (neg_ℤ a) b))
+rises_not_negative p a b hp h k z hz =
+    let g = closed_from p (balance (neg_ℤ a) b) hp (omega (arith, linear)) (fraction_at z) hz.some in (
+      λ m. let v = m.1 in g.0 (m.0, omega (arith, linear, rises_is a b z)),
+      λ m. let n = g.1 m in let v = n.1 in (n.0, omega (arith, linear, rises_is a b z)),
+    )
+
+pub falls_not_negative : (p : Part) (a b : ℤ) → IsFraction p.to → pos 0 ≤ℤ a → b <ℤ pos 0 → IsWhereNotNegative p a b (to_earlier p (balance a (neg_ℤ b)))
+falls_not_negative p a b hp h k z hz =
+    let g = closed_upto p (balance a (neg_ℤ b)) hp (omega (arith, linear)) (fraction_at z) hz.some in (
+      λ m. let v = m.1 in g.0 (m.0, omega (arith, linear, falls_is a b z)),
+      λ m. let n = g.1 m in let v = n.1 in (n.0, omega (arith, linear, falls_is a b z)),
+    )
+
+pub never_not_negative : (p : Part) (a b : ℤ) → a <ℤ pos 0 → b <ℤ pos 0 → IsWhereNotNegative p a b nowhere
+never_not_negative p a b h k z hz = (λ m. absurd (negative m.1), λ m. absurd (omega (arith, linear, m.0, m.1, hz.some, one_mul (z.s +ℤ z.t), zero_mul (z.s +ℤ z.t))))
+  where
+    negative : pos 0 ≤ℤ value_at a b z → ⊥
+    negative v = elim (sign_of z.s) [
+      | is_positive i ↦ omega (arith, linear, v, mul_pos_neg i h, mul_nonneg_nonpos hz.second (weaken k))
+      | is_negative i ↦ omega (arith, linear, i, hz.first)
+      | is_zero e ↦ let j : pos 0 <ℤ z.t = omega (arith, linear, e, hz.some) in omega (arith, linear, v, zero_of_mul_left z.s a e, mul_pos_neg j k)
+    ]

@@ -1,7 +1,8 @@
 -- How far a point is along an edge: fractions from 0 at its first end to 1 at its second.
-use Rattle.std.specs.Prelude.{ℤ, pos, ◌+ℤ◌, ◌*ℤ◌, ◌<ℤ◌, ◌≤ℤ◌, ◌^◌, Bool, int_le}
+use Rattle.std.specs.Prelude.{ℤ, pos, ◌+ℤ◌, ◌-ℤ◌, ◌*ℤ◌, ◌<ℤ◌, ◌≤ℤ◌, ◌^◌, Bool, int_le}
 use Rattle.plan_grid.specs.Fraction.{Fraction}
-use Rattle.plan_spec.specs.Weights.{Weights}
+use Rattle.plan_exact.specs.Vectors.{Vector}
+use Rattle.plan_spec.specs.Weights.{Weights, weighted}
 
 -- by value, where the denominators are positive
 abbrev pub AtMost : Fraction → Fraction → Type 0
@@ -37,3 +38,7 @@ fraction_at z = record { num = z.t; den = z.s +ℤ z.t }
 -- where a value passes 0 that is `first` away from 0 at the first end, and `second` away, on the other side, at the second
 abbrev pub balance : ℤ → ℤ → Fraction
 balance first second = record { num = first; den = first +ℤ second }
+
+-- the point of the edge from a to b that is so far along it
+abbrev pub along : Vector → Vector → Fraction → Vector
+along a b f = weighted a b (record { s = f.den -ℤ f.num; t = f.num })

@@ -22,6 +22,20 @@ pub struct Span {
 }
 
 impl Span {
+    /// The part of the edge.
+    pub fn part(self) -> Part
+        requires { IsProper self }
+        ensures start { result.from ≡ start self }
+        ensures finish { result.to ≡ finish self }
+        ensures from_in_range { IsParameter result.from }
+        ensures to_in_range { IsParameter result.to }
+    {
+        Part {
+            from: Parameter::of(self.n0, self.d0),
+            to: Parameter::of(self.n1, self.d1),
+        }
+    }
+
     // The span between the two ends of the part.
     fn of(part: Part) -> Span
         requires { Less part.from part.to }

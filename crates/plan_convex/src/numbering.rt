@@ -1,12 +1,13 @@
-ghost use Rattle.std.specs.Prelude.{◌≡◌, ◌<◌, ◌≤◌, ℕ, length, slice_index_or};
+ghost use Rattle.std.specs.Prelude.{◌≡◌, ◌<◌, ◌≤◌, ◌<ℤ◌, ℕ, length, slice_index_or};
 ghost use Rattle.plan_spec.specs.Boundary.{boundary, sides};
 ghost use Rattle.plan_spec.specs.Frame as spec;
+ghost use Rattle.plan_spec.specs.Vector.{Same};
 ghost use Rattle.plan_grid.specs.Frame.{frame_seen};
-ghost use Rattle.plan_grid.specs.Spot.{edge_seen};
+ghost use Rattle.plan_grid.specs.Spot.{spot_seen, edge_seen, IsWithin};
 ghost use Rattle.plan_convex.specs.Piece.{sums_seen};
 
 use crate::convex::Convex;
-use plan_grid::{Frame, Spot};
+use plan_grid::{Frame, MOST_COORDINATE, Spot};
 
 /// How many edges the sums have, and the room's four sides with them; at most 512 sums.
 pub fn edge_count(sums: &[Convex]) -> u32
@@ -25,8 +26,12 @@ pub fn edge_count(sums: &[Convex]) -> u32
 /// the room's bottom, right, top and left side, each from its lesser end.
 pub fn edge_of(sums: &[Convex], room: Frame, edge: u32) -> (Spot, Spot)
     requires { edge < length (boundary (sums_seen sums.now) (frame_seen room)) }
-    ensures { slice_index_or (boundary (sums_seen sums.now) (frame_seen room)) edge (edge_seen result.0 result.1)
+    ensures edge { slice_index_or (boundary (sums_seen sums.now) (frame_seen room)) edge (edge_seen result.0 result.1)
         ≡ edge_seen result.0 result.1 }
+    ensures bounded { IsWithin MOST_COORDINATE room.low → IsWithin MOST_COORDINATE room.high
+        → IsWithin MOST_COORDINATE result.0 × IsWithin MOST_COORDINATE result.1 }
+    ensures distinct { (room.low.x <ℤ room.high.x) → (room.low.y <ℤ room.high.y)
+        → ¬ (Same (spot_seen result.0) (spot_seen result.1)) }
 {
     let mut left = edge as usize;
     for sum in sums {
@@ -42,7 +47,11 @@ pub fn edge_of(sums: &[Convex], room: Frame, edge: u32) -> (Spot, Spot)
 // The bottom, right, top and left side by number, each from its lesser end.
 fn side_of_room(room: Frame, side: usize) -> (Spot, Spot)
     requires { side < 4 }
-    ensures { slice_index_or (sides (frame_seen room)) side (edge_seen result.0 result.1) ≡ edge_seen result.0 result.1 }
+    ensures edge { slice_index_or (sides (frame_seen room)) side (edge_seen result.0 result.1) ≡ edge_seen result.0 result.1 }
+    ensures bounded { IsWithin MOST_COORDINATE room.low → IsWithin MOST_COORDINATE room.high
+        → IsWithin MOST_COORDINATE result.0 × IsWithin MOST_COORDINATE result.1 }
+    ensures distinct { (room.low.x <ℤ room.high.x) → (room.low.y <ℤ room.high.y)
+        → ¬ (Same (spot_seen result.0) (spot_seen result.1)) }
 {
     let lower_right = Spot {
         x: room.high.x,

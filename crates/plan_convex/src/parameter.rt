@@ -1,7 +1,11 @@
-ghost use Rattle.std.specs.Prelude.{◌≡◌, pos, ◌+ℤ◌, ◌≤ℤ◌, ◌<ℤ◌, ◌^◌};
-ghost use Rattle.plan_convex.specs.Parameter.{IsParameter, at_most, zero, one, balance};
+ghost use Rattle.std.specs.Prelude.{◌≡◌, pos, ◌+ℤ◌, ◌-ℤ◌, ◌*ℤ◌, ◌≤ℤ◌, ◌<ℤ◌, ◌<◌, ◌≤◌, ◌*◌, ◌^◌, unsigned_abs};
+ghost use Rattle.plan_spec.specs.Vector.{Same};
+ghost use Rattle.plan_grid.specs.Bounds.{IsInRange};
+ghost use Rattle.plan_grid.specs.Spot.{spot_seen, IsWithin};
+ghost use Rattle.plan_convex.specs.Parameter.{IsParameter, at_most, zero, one, balance, along};
 
 use plan_exact::Whole;
+use plan_grid::{MOST_COORDINATE, Point, Spot};
 use std::cmp::Ordering;
 use std::marker::Model;
 
@@ -121,6 +125,32 @@ impl Parameter {
         }
     }
 
+    /// `num / den`.
+    pub fn of(num: u32, den: u32) -> Parameter
+        requires positive { 0 < den }
+        requires upto { num ≤ den }
+        requires bounded { den < 2 ^ 25 }
+        ensures value { result ≡ record { num = pos num; den = pos den } }
+        ensures in_range { IsParameter result }
+    {
+        Parameter {
+            num: Whole::from(num as i32),
+            den: Whole::from(den as i32),
+        }
+    }
+
+    /// The point of the edge from `a` to `b` that is so far along it. The coordinates of both are at most 2046.
+    pub fn along(self, a: Spot, b: Spot) -> Point
+        requires a_bounded { IsWithin MOST_COORDINATE a }
+        requires b_bounded { IsWithin MOST_COORDINATE b }
+        ensures same { Same result (along (spot_seen a) (spot_seen b) self) }
+        ensures in_range { IsInRange result }
+        ensures bounded { result.w <ℤ pos (2 ^ 25) }
+        ensures share { IsParameter self }
+    {
+        point(mean(self, a.x, b.x), mean(self, a.y, b.y), self.den)
+    }
+
     pub fn num(self) -> Whole
         ensures value { result ≡ self.num }
         ensures in_range { IsParameter self }
@@ -144,4 +174,28 @@ impl Parameter {
             .times(other.den)
             .is_at_most(other.num.times(self.den))
     }
+}
+
+// The mean of `a` and `b` with the weights of the parameter, times its denominator.
+fn mean(p: Parameter, a: i32, b: i32) -> Whole
+    requires a_bounded { unsigned_abs a ≤ MOST_COORDINATE }
+    requires b_bounded { unsigned_abs b ≤ MOST_COORDINATE }
+    ensures value { result ≡ (p.den -ℤ p.num) *ℤ a +ℤ p.num *ℤ b }
+    ensures bounded { unsigned_abs result ≤ MOST_COORDINATE * unsigned_abs p.den }
+{
+    let rest = p.den.minus(p.num);
+    rest.times(Whole::from(a)).plus(p.num.times(Whole::from(b)))
+}
+
+// The point at (`x / w`, `y / w`).
+fn point(x: Whole, y: Whole, w: Whole) -> Point
+    requires positive { pos 0 <ℤ w }
+    requires bounded { w <ℤ pos (2 ^ 25) }
+    requires x_bounded { unsigned_abs x ≤ MOST_COORDINATE * unsigned_abs w }
+    requires y_bounded { unsigned_abs y ≤ MOST_COORDINATE * unsigned_abs w }
+    ensures same { Same result (record { x = x; y = y; w = w }) }
+    ensures in_range { IsInRange result }
+    ensures bounded { result.w <ℤ pos (2 ^ 25) }
+{
+    Point::new(x.get() as i64, y.get() as i64, w.get() as i64).unwrap()
 }

@@ -1,6 +1,6 @@
 ghost use Rattle.std.specs.Prelude.{◌≡◌, ◌-ℤ◌, ◌<◌, ◌^◌, unsigned_abs};
 ghost use Rattle.plan_convex.specs.Parameter.{IsParameter};
-ghost use Rattle.plan_convex.specs.Part.{from_later, to_earlier, whole, IsWherePositive};
+ghost use Rattle.plan_convex.specs.Part.{from_later, to_earlier, whole, nowhere, IsWherePositive, IsWhereNotNegative};
 
 use crate::parameter::Parameter;
 use plan_exact::Whole;
@@ -20,6 +20,16 @@ impl Part {
         Part {
             from: Parameter::zero(),
             to: Parameter::one(),
+        }
+    }
+
+    /// A part with nothing in it.
+    pub fn nowhere() -> Part
+        ensures { result ≡ nowhere }
+    {
+        Part {
+            from: Parameter::one(),
+            to: Parameter::zero(),
         }
     }
 
@@ -69,5 +79,24 @@ impl Part {
             return Some(self.starting_at(Parameter::balance(at_a.negated(), at_b)));
         }
         None
+    }
+
+    /// What is left of the part where a value is not negative that is `at_a` at the first end of the edge and `at_b` at
+    /// the second. The two are less than 2^25 apart.
+    pub fn where_not_negative(self, at_a: Whole, at_b: Whole) -> Part
+        requires { unsigned_abs (at_b -ℤ at_a) < 2 ^ 25 }
+        ensures value { IsWhereNotNegative self at_a at_b result }
+        ensures in_range { IsParameter self.from × IsParameter self.to → IsParameter result.from × IsParameter result.to }
+    {
+        if at_a.is_negative() {
+            if at_b.is_negative() {
+                return Part::nowhere();
+            }
+            return self.starting_at(Parameter::balance(at_a.negated(), at_b));
+        }
+        if at_b.is_negative() {
+            return self.ending_at(Parameter::balance(at_a, at_b.negated()));
+        }
+        self
     }
 }

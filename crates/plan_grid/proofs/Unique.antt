@@ -41,7 +41,7 @@ lowest_multiples p m d lowest x y w =
 cross_size : (a q b p : ℤ) → a *ℤ q ≡ b *ℤ p → unsigned_abs q * unsigned_abs a ≡ unsigned_abs b * unsigned_abs p
 cross_size a q b p e = omega (arith, unsigned_abs-mul a q, unsigned_abs-mul b p, ap unsigned_abs e)
 
-weight_divides : (p q : Vector) → IsLowest p → Same p q → unsigned_abs p.w ∣ unsigned_abs q.w
+pub weight_divides : (p q : Vector) → IsLowest p → Same p q → unsigned_abs p.w ∣ unsigned_abs q.w
 weight_divides p q lowest same =
     let x = subst (λ n. unsigned_abs p.w ∣ n) (sym (cross_size p.x q.w q.x p.w same.0)) (dvd-mul_left (unsigned_abs p.w) (unsigned_abs q.x)) in
     let y = subst (λ n. unsigned_abs p.w ∣ n) (sym (cross_size p.y q.w q.y p.w same.1)) (dvd-mul_left (unsigned_abs p.w) (unsigned_abs q.y)) in
