@@ -4,7 +4,7 @@ use Rattle.plan_exact.specs.Expr.{var, ◌⊕◌, ◌⊖◌, ◌⊗◌, neg}
 use Rattle.plan_exact.specs.Sign.{is_negative, is_zero, is_positive}
 use Rattle.plan_exact.proofs.Laws.{linear, one_mul, zero_mul}
 use Rattle.plan_exact.proofs.Ring.{ring}
-use Rattle.plan_exact.proofs.Signs.{mul_pos, mul_nonneg, mul_nonneg_nonpos, mul_pos_neg, zero_of_mul_left, sign_of, weaken, le_of_lt, le_or_lt}
+use Rattle.plan_exact.proofs.Signs.{mul_pos, mul_nonneg, mul_nonneg_nonpos, mul_pos_neg, zero_of_mul_left, sign_of, le_of_lt, le_or_lt}
 use Rattle.plan_spec.specs.Weights.{Weights, IsInner}
 use Rattle.plan_grid.specs.Fraction.{Fraction}
 use Rattle.plan_convex.specs.declared.part.Part.{Part}
@@ -108,7 +108,7 @@ never_not_negative p a b h k z hz = (λ m. absurd (negative m.1), λ m. absurd (
   where
     negative : pos 0 ≤ℤ value_at a b z → ⊥
     negative v = elim (sign_of z.s) [
-      | is_positive i ↦ omega (arith, linear, v, mul_pos_neg i h, mul_nonneg_nonpos hz.second (weaken k))
+      | is_positive i ↦ omega (arith, linear, v, mul_pos_neg i h, mul_nonneg_nonpos hz.second (le_of_lt k))
       | is_negative i ↦ omega (arith, linear, i, hz.first)
       | is_zero e ↦ let j : pos 0 <ℤ z.t = omega (arith, linear, e, hz.some) in omega (arith, linear, v, zero_of_mul_left z.s a e, mul_pos_neg j k)
     ]
