@@ -18,7 +18,7 @@ use Rattle.plan_grid.specs.Spot.{spot_seen, IsWithin}
 use Rattle.plan_grid.specs.Frame.{frame_seen}
 use Rattle.plan_grid.specs.declared.frame.Frame.{Frame}
 use Rattle.plan_grid.specs.declared.spot.Spot.{Spot}
-use Rattle.plan_wire.specs.Document.{whole, within, member, natural, spot_at, spot_from, spot_of, is_not_flat, shape_from, shape_of, frame_from, frame_of, query_from, query_of, point_from, point_of, obstacle_of, obstacles_of, differ, path_of, document_of, first_of, most_bytes, each, given, elements}
+use Rattle.plan_wire.specs.Document.{whole, within, member, natural, spot_at, spot_from, spot_of, is_not_flat, shape_from, shape_of, frame_from, frame_of, query_from, query_of, point_from, point_of, obstacle_of, obstacles_of, differ, path_of, document_of, first_of, most_bytes, each_read, given, elements}
 use Rattle.plan_wire.proofs.Lists.{each_length}
 use Rattle.plan_wire.proofs.Lengths.{values, values_of_text, member_has_fewer, elements_are_few}
 use Rattle.plan_wire.specs.First.{obstacle_seen, document_seen}
@@ -75,18 +75,18 @@ corner_bounded v s read = option_and_then_some spot_from (elements v) (spot_seen
 -- ---- lists
 
 -- what each value that is read keeps to, the list of them keeps to
-each_keeps : {X B : Type 0} (P : X → Type 0) (f : Data → Option B) (seen : X → B) → ((v : Data) (x : X) → f v ≡ Some (seen x) → P x) → (vs : List Data) (xs : List X) → each f vs ≡ Some (map seen xs) → All P xs
-each_keeps P f seen keeps vs [] read = All-nil P
-each_keeps P f seen keeps [] (x ∷ xs) read = cc
-each_keeps P f seen keeps (v ∷ vs) (x ∷ xs) read =
+each_keeps : {X B : Type 0} (Keeps : X → Type 0) (f : Data → Option B) (seen : X → B) → ((v : Data) (x : X) → f v ≡ Some (seen x) → Keeps x) → (vs : List Data) (xs : List X) → each_read f vs ≡ Some (map seen xs) → All Keeps xs
+each_keeps Keeps f seen keeps vs [] read = All-nil Keeps
+each_keeps Keeps f seen keeps [] (x ∷ xs) read = cc
+each_keeps Keeps f seen keeps (v ∷ vs) (x ∷ xs) read =
     option_and_then_some _ (f v) (map seen (x ∷ xs)) read (λ b b_read rest.
-    option_and_then_some _ (each f vs) (map seen (x ∷ xs)) rest (λ bs bs_read same.
+    option_and_then_some _ (each_read f vs) (map seen (x ∷ xs)) rest (λ bs bs_read same.
     let is : b ∷ bs ≡ seen x ∷ map seen xs = same_Some _ _ same in
     let first : f v ≡ Some (seen x) = cc in
-    let others : each f vs ≡ Some (map seen xs) = cc in
-    All-cons P x xs (keeps v x first) (each_keeps P f seen keeps vs xs others)))
+    let others : each_read f vs ≡ Some (map seen xs) = cc in
+    All-cons Keeps x xs (keeps v x first) (each_keeps Keeps f seen keeps vs xs others)))
 
-each_as_many : {X B : Type 0} (f : Data → Option B) (seen : X → B) (vs : List Data) (xs : List X) → each f vs ≡ Some (map seen xs) → length xs ≡ length vs
+each_as_many : {X B : Type 0} (f : Data → Option B) (seen : X → B) (vs : List Data) (xs : List X) → each_read f vs ≡ Some (map seen xs) → length xs ≡ length vs
 each_as_many f seen vs xs read =
     let same : IfSome (Some (map seen xs)) (λ ys. length ys ≡ length vs) = subst (λ o. IfSome o (λ ys. length ys ≡ length vs)) read (each_length f vs) in
     simp length-map at same
@@ -219,8 +219,8 @@ path_kept : (v : Data) (path : List Spot) → path_of v ≡ Some (map spot_seen 
 unfolding path_of
 path_kept v path read =
     option_and_then_some _ (get (codes "path") v) (map spot_seen path) read (λ points found rest.
-    let listed = (under (is_none (get (codes "chain") v)) (option_and_then (each point_of) (elements points)) (map spot_seen path) rest).1 in
-    option_and_then_some (each point_of) (elements points) (map spot_seen path) listed (λ vs is_list vs_read. (
+    let listed = (under (is_none (get (codes "chain") v)) (option_and_then (each_read point_of) (elements points)) (map spot_seen path) rest).1 in
+    option_and_then_some (each_read point_of) (elements points) (map spot_seen path) listed (λ vs is_list vs_read. (
       each_keeps (IsWithin MOST_COORDINATE) point_of spot_seen point_kept vs path vs_read,
       omega (arith, each_as_many point_of spot_seen vs path vs_read, elements_are_few points vs is_list, member_has_fewer (codes "path") v points found),
     )))
@@ -249,10 +249,10 @@ obstacle_kept v o read =
 obstacles_kept : (v : Data) (os : List FirstShape) → obstacles_of v ≡ Some (map obstacle_seen os) → (length os ≤ 64) × All IsObstacle os
 unfolding obstacles_of
 obstacles_kept v os read =
-    let p = passed (λ os. nat_le (length os) 64 && differ os) (option_and_then (each obstacle_of) (elements v)) (map obstacle_seen os) read in
+    let p = passed (λ os. nat_le (length os) 64 && differ os) (option_and_then (each_read obstacle_of) (elements v)) (map obstacle_seen os) read in
     let few = (and_parts (nat_le (length (map obstacle_seen os)) 64) (differ (map obstacle_seen os)) p.1).0 in (
       leb-true (length os) 64 (rw length-map at few),
-      option_and_then_some (each obstacle_of) (elements v) (map obstacle_seen os) p.0 (λ items _ rest. each_keeps IsObstacle obstacle_of obstacle_seen obstacle_kept items os rest),
+      option_and_then_some (each_read obstacle_of) (elements v) (map obstacle_seen os) p.0 (λ items _ rest. each_keeps IsObstacle obstacle_of obstacle_seen obstacle_kept items os rest),
     )
 
 -- ---- documents

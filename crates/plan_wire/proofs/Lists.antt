@@ -5,7 +5,7 @@ use Rattle.std.proofs.lemmas.List.Folds.{list_all-map}
 use Rattle.serde_json.specs.Data.{Data}
 use Rattle.serde_json.specs.View.{view, items_view}
 use Rattle.serde_json.specs.declared.value.Value.{Value}
-use Rattle.plan_wire.specs.Document.{list_of, each, differ}
+use Rattle.plan_wire.specs.Document.{list_of, each_read, differ}
 use Rattle.plan_wire.specs.First.{obstacle_seen}
 use Rattle.plan_wire.specs.declared.document.FirstShape.{FirstShape}
 
@@ -16,7 +16,7 @@ list_of_items_view (v ∷ vs) = ap (λ ds. view v ∷ ds) (list_of_items_view vs
 
 -- of the values the first i were read as these
 abbrev pub ReadSoFar : {X B : Type 0} → (Data → Option B) → (X → B) → List Value → List X → ℕ → Type 0
-ReadSoFar f seen vs done i = each f (map view vs) ≡ option_map (λ rest. map seen done ++ rest) (each f (map view (drop i vs)))
+ReadSoFar f seen vs done i = each_read f (map view vs) ≡ option_map (λ rest. map seen done ++ rest) (each_read f (map view (drop i vs)))
 
 one_more : {B : Type 0} (first : Option B) (rest : Option (List B)) (n : ℕ) → IfSome rest (λ bs. length bs ≡ n) → IfSome (option_and_then (λ b. option_map (λ bs. b ∷ bs) rest) first) (λ bs. length bs ≡ suc n)
 one_more None rest n h = tt
@@ -24,9 +24,9 @@ one_more (Some b) None n h = tt
 one_more (Some b) (Some bs) n h = ap suc h
 
 -- as many are read as there are
-pub each_length : {A B : Type 0} (f : A → Option B) (xs : List A) → IfSome (each f xs) (λ ys. length ys ≡ length xs)
+pub each_length : {A B : Type 0} (f : A → Option B) (xs : List A) → IfSome (each_read f xs) (λ ys. length ys ≡ length xs)
 each_length f [] = refl
-each_length f (x ∷ xs) = one_more (f x) (each f xs) (length xs) (each_length f xs)
+each_length f (x ∷ xs) = one_more (f x) (each_read f xs) (length xs) (each_length f xs)
 
 -- no two of a list have one id where none of the others has that of the first, and no two of them have one
 differ_at : (all others : List FirstShape) (first : FirstShape) → all ≡ first ∷ others → differ (map obstacle_seen all) ≡ (list_all (λ other. not (nat_eq first.id other.id)) others && differ (map obstacle_seen others))

@@ -35,9 +35,9 @@ abbrev pub given : {A : Type 0} → (A → Bool) → A → Option A
 given test a = if test a then Some a else None
 
 -- what each of them is read as, or none where one is not
-abbrev pub each : {A B : Type 0} → (A → Option B) → List A → Option (List B)
-each f [] = Some []
-each f (a ∷ rest) = bind (f a) (λ b. option_map (λ bs. b ∷ bs) (each f rest))
+abbrev pub each_read : {A B : Type 0} → (A → Option B) → List A → Option (List B)
+each_read f [] = Some []
+each_read f (a ∷ rest) = bind (f a) (λ b. option_map (λ bs. b ∷ bs) (each_read f rest))
 
 abbrev pub list_of : Items → List Data
 list_of no_items = []
@@ -116,7 +116,7 @@ differ [] = true
 differ (o ∷ os) = list_all (λ other. not (nat_eq o.id other.id)) os && differ os
 
 unfoldable pub obstacles_of : Data → Option (List Obstacle)
-obstacles_of v = bind (bind (elements v) (each obstacle_of)) (given (λ os. nat_le (length os) 64 && differ os))
+obstacles_of v = bind (bind (elements v) (each_read obstacle_of)) (given (λ os. nat_le (length os) 64 && differ os))
 
 -- ---- queries: x and y from -2046 to 2046 of a start and of a goal
 
@@ -139,7 +139,7 @@ point_of v = bind (elements v) point_from
 unfoldable pub path_of : Data → Option (List Vector)
 path_of v =
     bind (get (codes "path") v) (λ path.
-    if is_none (get (codes "chain") v) then bind (elements path) (each point_of) else None)
+    if is_none (get (codes "chain") v) then bind (elements path) (each_read point_of) else None)
 
 -- ---- the document
 

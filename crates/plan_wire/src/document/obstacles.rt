@@ -31,7 +31,7 @@ fn obstacle_of(v: &Value) -> Option<FirstShape>
 // What each element is read as, or none where one is not.
 fn each_obstacle(alloc: Global, items: &[Value]) -> Result<Option<Vec<FirstShape>>, AllocError>
     ensures { IfOk result (λ all. option_map (λ all. map obstacle_seen all.items) all
-        ≡ document.each document.obstacle_of (map view items.now)) }
+        ≡ document.each_read document.obstacle_of (map view items.now)) }
 {
     let mut all = Vec::new(alloc);
     for v in items {

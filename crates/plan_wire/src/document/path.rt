@@ -33,7 +33,7 @@ fn point_of(v: &Value) -> Option<Spot>
 // What each element is read as, or none where one is not.
 fn each_point(alloc: Global, items: &[Value]) -> Result<Option<Vec<Spot>>, AllocError>
     ensures { IfOk result (λ all. option_map (λ all. map spot_seen all.items) all
-        ≡ document.each document.point_of (map view items.now)) }
+        ≡ document.each_read document.point_of (map view items.now)) }
 {
     let mut all = Vec::new(alloc);
     for v in items {
