@@ -5,3 +5,7 @@ pub mod Third
 pub mod Farthest
 pub mod Steps
 pub mod Region
+pub mod Search
+pub mod FirstCut
+pub mod Cuts
+pub mod Polygons

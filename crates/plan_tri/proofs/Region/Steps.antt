@@ -18,7 +18,7 @@ use Rattle.plan_spec.specs.Vector.{turn, IsPoint, Before, Vector}
 use Rattle.plan_plane.proofs.Lists.{any_here, all_right, all_left}
 use Rattle.plan_plane.proofs.Polygon.Corner.{polygon}
 use Rattle.plan_plane.proofs.Polygon.Cut.{part_one}
-use Rattle.plan_plane.proofs.Polygon.Triangle.{held, inside_turned}
+use Rattle.plan_plane.proofs.Polygon.Triangle.{inside_turned}
 use Rattle.plan_poly.proofs.EvenOdd.Triangle.{inside_from, from_inside}
 use Rattle.plan_poly.proofs.FromLeast.Best.{IsBest, Found, best}
 use Rattle.plan_poly.proofs.FromLeast.ByPlace.{from_least_is}
@@ -50,10 +50,10 @@ triangle_out v w u z i =
     and_from (int_le (pos 0) (turn v w z)) (int_le (pos 0) (turn w u z) && int_le (pos 0) (turn u v z)) (le_out (turn v w z) i.after)
     (and_from (int_le (pos 0) (turn w u z)) (int_le (pos 0) (turn u v z)) (le_out (turn w u z) i.ahead) (le_out (turn u v z) i.before))
 
-abbrev at_corner : (List Vector → List Triangle) → Vector → Vector → List Vector → Vector → List Triangle
+abbrev pub at_corner : (List Vector → List Triangle) → Vector → Vector → List Vector → Vector → List Triangle
 at_corner f v w mid u = ear_or_cut f v w mid u (part_at_best (in_triangle v w u) (farther w u) mid)
 
-corner_is : (f : List Vector → List Triangle) (v w : Vector) (mid : List Vector) (u : Vector) → from_corner f (polygon v w mid u) ≡ at_corner f v w mid u
+pub corner_is : (f : List Vector → List Triangle) (v w : Vector) (mid : List Vector) (u : Vector) → from_corner f (polygon v w mid u) ≡ at_corner f v w mid u
 corner_is f v w [] u = refl
 corner_is f v w (m ∷ ms) u = ap₂ (λ mid u. at_corner f v w mid u) (split_front m ms u) (split_last m ms u)
 
@@ -101,7 +101,7 @@ alone_from_u v w u hv hw hu bw bu left = record {
     side s h = any_here (HasSide s) (triangle v w u) [] h
 
 -- ---- two vertices have no triangle
-two_none : (k : ℕ) (w u : Vector) → triangles_within k (w ∷ u ∷ []) ≡ []
+pub two_none : (k : ℕ) (w u : Vector) → triangles_within k (w ∷ u ∷ []) ≡ []
 two_none zero w u = refl
 two_none (suc k) w u = by (comes_before u w)
   where
