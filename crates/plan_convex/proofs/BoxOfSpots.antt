@@ -1,5 +1,5 @@
 -- The box of the spots so far, made larger for one more, is the box of the spots with it.
-use Rattle.std.proofs.Common.{◌≡◌, ◌⊎◌, inl, inr, ℕ, ℤ, ◌+◌, ◌<◌, ◌≤◌, Bool, true, false, cond, int_lt, List, length, get_or, All, Any, below_more, refl, sym, ◌∙◌, subst, arith}
+use Rattle.std.proofs.Common.{◌≡◌, ◌⊎◌, inl, inr, ℕ, ℤ, ◌+◌, ◌<◌, ◌≤◌, Bool, true, false, cond, int_lt, List, length, Any, below_more, refl, sym, ◌∙◌, subst, arith}
 use Rattle.std.specs.Int.{int_min, int_max}
 use Rattle.std.proofs.lemmas.List.{get_or_default}
 use Rattle.plan_plane.proofs.Lists.{any_weaker}
