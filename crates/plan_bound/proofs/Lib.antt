@@ -1,0 +1,10 @@
+pub mod GapsLeft
+pub mod Parts
+pub mod PiecesOfEdge
+pub mod Maximal
+pub mod RoomPart
+pub mod Covering
+pub mod Along
+pub mod Kept
+pub mod Sorting
+pub mod OfEdge

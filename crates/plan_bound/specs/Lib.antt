@@ -1,0 +1,4 @@
+pub mod Gaps
+pub mod Edge
+pub mod Cover
+pub mod Pieces

@@ -1,0 +1,11 @@
+//! The uncovered pieces of the edges of sums and of the sides of a room.
+#![tactic(auto)]
+
+mod cover;
+mod edge_pieces;
+mod gaps;
+mod in_room;
+mod no_memory;
+mod sorted;
+
+pub use no_memory::NoMemory;
