@@ -6,14 +6,13 @@ use Rattle.std.proofs.lemmas.Int.{ints}
 use Rattle.std.proofs.lemmas.List.Elements.{All-nil, All-cons, All-head, All-tail, All-weaker, All-map}
 use Rattle.plan_exact.specs.Sign.{Order, is_less, is_equal, is_greater}
 use Rattle.plan_exact.specs.Vectors.{Vector}
-use Rattle.plan_exact.proofs.Laws.{linear}
 use Rattle.plan_exact.proofs.Signs.{order_of}
 use Rattle.plan_spec.specs.Vector.{Same, Before}
 use Rattle.plan_spec.specs.Segment.{Segment}
 use Rattle.plan_spec.specs.Polygon.{IsConvex, EndOrLeft, edges_to}
 use Rattle.plan_grid.specs.declared.spot.Spot.{Spot}
 use Rattle.plan_grid.specs.Spot.{spot_seen, edge_seen, IsWithin, spots_seen, way, cross}
-use Rattle.plan_grid.proofs.Spots.{spot_path}
+use Rattle.plan_grid.proofs.Spots.{spot_path, same_spots, same_from}
 use Rattle.plan_convex.proofs.Corners.{Borders, IsCorner, corner_left, borders_spot}
 use Rattle.plan_grid.proofs.Turns.{turn_cross}
 use Rattle.plan_convex.proofs.Walks.{sweep_line}
@@ -42,16 +41,13 @@ pub record IsSide (S : Vector → Type 0) (a b : Spot) : Type 0 where
   pub borders : Borders S a (way a b)
   pub apart : ¬ (a ≡ b)
 
-same_vectors : (p q : Spot) → p ≡ q → Same (spot_seen p) (spot_seen q)
-same_vectors p q e = (ap (λ (s : Spot). s.x *ℤ pos 1) e, ap (λ (s : Spot). s.y *ℤ pos 1) e)
-
 -- a corner is an end of a side, or strictly left of it
 end_or_left : (S : Vector → Type 0) (a b u : Spot) → IsSide S a b → IsCorner S a → IsCorner S b → IsCorner S u → EndOrLeft (edge_seen a b) (spot_seen u)
 end_or_left S a b u side ca cb cu = by (corner_left S a b u side.apart ca cb cu (borders_spot S a (way a b) u side.borders cu.belongs))
   where
     by : (u ≡ a) ⊎ ((u ≡ b) ⊎ (pos 0 <ℤ cross (way a b) (way a u))) → EndOrLeft (edge_seen a b) (spot_seen u)
-    by (inl s) = inl (same_vectors u a s)
-    by (inr (inl s)) = inr (inl (same_vectors u b s))
+    by (inl s) = inl (same_from u a s)
+    by (inr (inl s)) = inr (inl (same_from u b s))
     by (inr (inr left)) = inr (inr (subst (λ k. pos 0 <ℤ k) (sym (turn_cross a b u)) left))
 
 -- ---- from the least vertex on
@@ -74,9 +70,6 @@ distinct_vectors v vs h i j d lt within =
     let P : Vector → Vector → Type 0 = λ p q. Same p q in
     λ same. h i j v lt fits (same_spots (get_or spots i v) (get_or spots j v)
     (subst (λ p. P p (spot_seen (get_or spots j v))) (get_or-map spot_seen spots i v d first) (subst (P (get_or (spots_seen spots) i d)) (get_or-map spot_seen spots j v d fits) same)))
-  where
-    same_spots : (p q : Spot) → Same (spot_seen p) (spot_seen q) → p ≡ q
-    same_spots p q s = let e = s.0 in let f = s.1 in spot_path (omega (arith, linear)) (omega (arith, linear))
 
 -- ---- a closed chain of sides between corners is a convex polygon
 pub convex_from_sides : (S : Vector → Type 0) (v : Spot) (vs : List Spot) → Borders S v sweep_line → All (IsCorner S) (v ∷ vs) → All (IsWithin 2046) (v ∷ vs) → AllPairs (λ a b. ¬ (a ≡ b)) (v ∷ vs) → AllSides (IsSide S) (v ∷ vs) v → IsConvex (spots_seen (v ∷ vs))

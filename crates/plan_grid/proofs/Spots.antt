@@ -3,7 +3,7 @@ use Rattle.std.proofs.Common.{◌≡◌, ◌⊎◌, inl, inr, ℕ, pos, ◌*ℤ�
 use Rattle.plan_exact.specs.Sign.{Order, is_less, is_equal, is_greater}
 use Rattle.plan_exact.proofs.Laws.{linear}
 use Rattle.plan_exact.proofs.Signs.{order_of}
-use Rattle.plan_spec.specs.Vector.{Before}
+use Rattle.plan_spec.specs.Vector.{Before, Same}
 use Rattle.plan_grid.specs.declared.spot.Spot.{Spot}
 use Rattle.plan_grid.specs.Spot.{spot_seen, IsWithin}
 
@@ -17,6 +17,13 @@ corner spots i = get_or spots i origin
 -- two spots of the same coordinates are one
 pub spot_path : {p q : Spot} → p.x ≡ q.x → p.y ≡ q.y → p ≡ q
 spot_path e f = λ i. record { x = e i; y = f i }
+
+-- spots at one position are one
+pub same_spots : (p q : Spot) → Same (spot_seen p) (spot_seen q) → p ≡ q
+same_spots p q (ex, ey) = spot_path (omega (arith, linear)) (omega (arith, linear))
+
+pub same_from : (p q : Spot) → p ≡ q → Same (spot_seen p) (spot_seen q)
+same_from p q e = (ap (λ (s : Spot). s.x *ℤ pos 1) e, ap (λ (s : Spot). s.y *ℤ pos 1) e)
 
 pub within_more : (k l : ℕ) (s : Spot) → k ≤ l → IsWithin k s → IsWithin l s
 within_more k l s more h = record { x = omega arith; y = omega arith }

@@ -5,7 +5,6 @@ use Rattle.std.proofs.lemmas.List.Elements.{All-map}
 use Rattle.std.proofs.lemmas.Bool.Decides.{Decides-int_eq, Decides-and, Decides-like, nat_tests}
 use Rattle.std.proofs.lemmas.List.{length-map}
 use Rattle.std.proofs.lemmas.Int.{ints}
-use Rattle.plan_exact.proofs.Signs.{mul_one}
 use Rattle.plan_spec.specs.Vector.{Vector, IsPoint, Same}
 use Rattle.plan_spec.specs.Segment.{Segment, HasPoints, AnyOn}
 use Rattle.plan_spec.specs.Polygon.{Inside}
@@ -23,23 +22,17 @@ use Rattle.plan_grid.specs.Spot.{spot_seen, spots_seen}
 use Rattle.plan_top.specs.Scene.{IsSumOf, IsSceneOf}
 use Rattle.plan_top.specs.Check.{LegTouches, IsFirstLeg}
 use Rattle.plan_top.specs.declared.scene.Scene.{Scene}
-use Rattle.plan_grid.proofs.Spots.{corner, spot_path}
+use Rattle.plan_grid.proofs.Spots.{corner, spot_path, same_spots, same_from}
 use Rattle.plan_top.proofs.Checks.Legs.{all_legs}
 
 -- ---- the ends
-same_spots : (p q : Spot) → Same (spot_seen p) (spot_seen q) → p ≡ q
-same_spots p q (ex, ey) = spot_path (sym (mul_one p.x) ∙ ex ∙ mul_one q.x) (sym (mul_one p.y) ∙ ey ∙ mul_one q.y)
-
-same_if : (p q : Spot) → p ≡ q → Same (spot_seen p) (spot_seen q)
-same_if p q e = (ap (λ s. s.x *ℤ pos 1) e, ap (λ s. s.y *ℤ pos 1) e)
-
 pub starts_at : (s : Spot) (path : List Spot) → 0 < length path → StartsAt (spot_seen s) (spots_seen path) ↔ (corner path 0 ≡ s)
 starts_at s [] some = absurd (omega arith)
-starts_at s (p ∷ ps) some = (same_spots p s, same_if p s)
+starts_at s (p ∷ ps) some = (same_spots p s, same_from p s)
 
 pub ends_at : (g : Spot) (path : List Spot) → 0 < length path → EndsAt (spot_seen g) (spots_seen path) ↔ (corner path (length path - 1) ≡ g)
 ends_at g [] some = absurd (omega arith)
-ends_at g (p ∷ []) some = (same_spots p g, same_if p g)
+ends_at g (p ∷ []) some = (same_spots p g, same_from p g)
 ends_at g (p ∷ (q ∷ ps)) some =
     let last : length (p ∷ (q ∷ ps)) - 1 ≡ suc (length (q ∷ ps) - 1) = omega arith in
     rw last (ends_at g (q ∷ ps) (omega arith))
