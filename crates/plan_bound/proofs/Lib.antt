@@ -8,3 +8,5 @@ pub mod Along
 pub mod Kept
 pub mod Sorting
 pub mod OfEdge
+pub mod Numbered
+pub mod BoxOfEach

@@ -1,0 +1,29 @@
+-- Each edge of the range is one of the boundary, and the list is in the order of the range.
+use Rattle.std.proofs.Common.{◌≡◌, ◌<◌, ◌-◌, ◌∙◌, length, ap, subst, arith}
+use Rattle.std.specs.List.{AllZip, range_with_len}
+use Rattle.std.specs.Result.{IfOk}
+use Rattle.rayon.specs.Numbers.{nat_range}
+use Rattle.rayon.proofs.ToStd.{nat_range-All}
+use Rattle.plan_spec.specs.Boundary.{boundary}
+use Rattle.plan_grid.specs.Frame.{frame_seen}
+use Rattle.plan_convex.specs.Piece.{sums_seen}
+use Rattle.plan_bound.specs.Pieces.{ArePiecesOf}
+use Rattle.plan_bound.proofs.Numbered.{collected}
+use Rattle.plan_bound.proofs.all_edges.by_edge.Goals as goal
+
+pub collect-requires-clause-ready : goal.collect-requires-clause-ready
+collect-requires-clause-ready g c =
+    let ends = c.into_par_iter.ensures in
+    let inside = nat_range-All (λ i. i < length (boundary (sums_seen c.args.sums.now) (frame_seen c.args.room))) 0 c.args.count (λ i low high. omega (arith, high, c.requires.count)) in
+    rw (c.map.ensures.base, c.map.ensures.f, c.with_min_len.ensures.base, ends.0, ends.1) (λ κs outlives k d lt. ((inside k d lt, (c.requires.low, (c.requires.high, c.requires.boxes))), λ y p. tt))
+
+pub returns : goal.returns
+returns g c =
+    let ends = c.into_par_iter.ensures in
+    let h = c.in_ok-collect.ensures in
+    let chain = rw (c.map.ensures.base, c.map.ensures.f, c.with_min_len.ensures.base) at h.1 in
+    let n = c.args.count in
+    let whole : n - 0 ≡ n = omega arith in
+    let places = chain.1 ∙ (λ i. nat_range (ends.0 i) (ends.1 i)) ∙ ap (range_with_len 0) whole in
+    subst (λ ks. IfOk c.in_ok-collect.field-0 (λ v. AllZip (λ edge ps. ArePiecesOf (sums_seen c.args.sums.now) (frame_seen c.args.room) edge ps.items) ks v.items)) places
+    (collected (λ v. v.items) _ chain.0 h.0 c.in_ok-collect.field-0 _ chain.2 h.2)
