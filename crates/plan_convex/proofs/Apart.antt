@@ -3,9 +3,9 @@ use Rattle.std.proofs.Common.{inl, inr, pos, ◌≤◌, ◌≤ℤ◌, ◌<ℤ◌
 use Rattle.std.proofs.lemmas.Int.{ints, int_min_is, int_max_is}
 use Rattle.std.proofs.lemmas.List.Elements.{All-map}
 use Rattle.std.proofs.lemmas.List.{length-map}
-use Rattle.plan_exact.specs.Vectors.{Vector, dot}
+use Rattle.plan_exact.specs.Vectors.{dot}
 use Rattle.plan_exact.proofs.Laws.{linear}
-use Rattle.plan_spec.specs.Vector.{IsPoint}
+use Rattle.plan_spec.specs.Vector.{Vector, IsPoint}
 use Rattle.plan_spec.specs.Segment.{On, segment}
 use Rattle.plan_spec.specs.Polygon.{Inside, IsConvex}
 use Rattle.plan_plane.proofs.Boundary.Blocks.{below, beyond_right, above, beyond_left, below_is, right_is, above_is, left_is}

@@ -5,9 +5,8 @@ use Rattle.std.specs.Prelude.{All, AllPairs}
 use Rattle.std.proofs.lemmas.Int.{ints}
 use Rattle.std.proofs.lemmas.List.Elements.{All-nil, All-cons, All-head, All-tail, All-weaker, All-map}
 use Rattle.plan_exact.specs.Sign.{Order, is_less, is_equal, is_greater}
-use Rattle.plan_exact.specs.Vectors.{Vector}
 use Rattle.plan_exact.proofs.Signs.{order_of}
-use Rattle.plan_spec.specs.Vector.{Same, Before}
+use Rattle.plan_spec.specs.Vector.{Vector, Same, Before}
 use Rattle.plan_spec.specs.Segment.{Segment}
 use Rattle.plan_spec.specs.Polygon.{IsConvex, EndOrLeft, edges_to}
 use Rattle.plan_grid.specs.declared.spot.Spot.{Spot}

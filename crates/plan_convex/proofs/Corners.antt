@@ -1,12 +1,11 @@
 -- Corners of a set of points in the plane: a spot from which all others are strictly to the left of some direction. Three of them are never in line, for each would have to be at an end.
 use Rattle.std.proofs.Common.{◌≡◌, ◌⊎◌, inl, inr, ℤ, pos, ◌+ℤ◌, ◌-ℤ◌, ◌*ℤ◌, ◌≤ℤ◌, ◌<ℤ◌, sym, ap, [], ◌∷◌, arith}
 use Rattle.plan_exact.specs.Expr.{var, ◌⊕◌, ◌⊖◌, ◌⊗◌}
-use Rattle.plan_exact.specs.Vectors.{Vector}
 use Rattle.plan_exact.specs.Sign.{Sign, is_negative, is_zero, is_positive}
 use Rattle.plan_exact.proofs.Laws.{linear}
 use Rattle.plan_exact.proofs.Ring.{ring}
 use Rattle.plan_exact.proofs.Signs.{sign_of, mul_pos, mul_neg_neg, mul_pos_neg, mul_of_zero, zero_of_mul_left}
-use Rattle.plan_spec.specs.Vector.{IsPoint}
+use Rattle.plan_spec.specs.Vector.{Vector, IsPoint}
 use Rattle.plan_grid.specs.declared.spot.Spot.{Spot}
 use Rattle.plan_grid.specs.Spot.{spot_seen, plus, way, cross}
 use Rattle.plan_grid.proofs.Spots.{spot_path}

@@ -1,9 +1,8 @@
 -- What a polygon covers of an edge, edge by edge of the polygon: the sides of it passed so far leave a part, and each narrows the part by where its own value is positive.
 use Rattle.std.proofs.Common.{◌≡◌, ◌↔◌, ℕ, ◌+◌, ◌<◌, ◌≤◌, ◌+ℤ◌, List, length, Some, None, sym, subst, arith, below_more}
-use Rattle.plan_exact.specs.Vectors.{Vector}
 use Rattle.plan_exact.proofs.Laws.{linear, zero_mul, one_mul}
 use Rattle.plan_exact.proofs.Vectors.{det_combination_3}
-use Rattle.plan_spec.specs.Vector.{turn}
+use Rattle.plan_spec.specs.Vector.{Vector, turn}
 use Rattle.plan_spec.specs.Boundary.{IsLeft, StrictlyInside}
 use Rattle.plan_spec.specs.Weights.{Weights, IsInner, weighted}
 use Rattle.plan_grid.specs.declared.spot.Spot.{Spot}

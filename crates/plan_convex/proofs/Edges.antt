@@ -2,7 +2,7 @@
 use Rattle.std.proofs.lemmas.List.{get_or_past, get_or_default}
 use Rattle.std.proofs.Math.Nat.{mod_self, mod-eq_of_lt, eq-or-lt_of_le}
 use Rattle.std.proofs.Common.{◌≡◌, ◌⊎◌, inl, inr, add-one, ℕ, zero, suc, pos, ◌+◌, ◌<◌, ◌%◌, ◌∙◌, refl, sym, ap, subst, List, [], ◌∷◌, length, get_or, arith}
-use Rattle.plan_exact.specs.Vectors.{Vector}
+use Rattle.plan_spec.specs.Vector.{Vector}
 use Rattle.plan_spec.specs.Segment.{Segment}
 use Rattle.plan_spec.specs.Polygon.{Inside, OnOrLeft, edges, edges_to}
 use Rattle.plan_grid.specs.declared.spot.Spot.{Spot}

@@ -2,8 +2,7 @@
 use Rattle.std.proofs.Common.{◌≡◌, pos, ◌≤◌, ◌<ℤ◌, List, [], ◌∷◌, length, All, Contains, refl, sym, subst}
 use Rattle.std.proofs.lemmas.List.{length-map}
 use Rattle.std.proofs.lemmas.List.Elements.{All-map, All-weaker, All-contains}
-use Rattle.plan_exact.specs.Vectors.{Vector}
-use Rattle.plan_spec.specs.Vector.{turn}
+use Rattle.plan_spec.specs.Vector.{Vector, turn}
 use Rattle.plan_spec.specs.Polygon.{IsConvex, Inside}
 use Rattle.plan_plane.proofs.Polygon.Fan as fan
 use Rattle.plan_grid.specs.declared.spot.Spot.{Spot}

@@ -2,10 +2,9 @@
 use Rattle.std.proofs.Common.{◌≡◌, ℕ, ◌+◌, ◌*◌, ◌<◌, ◌≤◌, ◌^◌, inl, inr, ℤ, pos, ◌+ℤ◌, ◌-ℤ◌, ◌*ℤ◌, ◌≤ℤ◌, ◌<ℤ◌, unsigned_abs, Option, Some, None, IsSome, IsNone, refl, subst, arith}
 use Rattle.std.proofs.lemmas.Int.{ints, unsigned_abs-mul}
 use Rattle.std.proofs.lemmas.Nat.Gcd.{le_of_dvd}
-use Rattle.plan_exact.specs.Vectors.{Vector}
 use Rattle.plan_exact.proofs.Laws.{linear}
 use Rattle.plan_exact.proofs.Sizes.{product_at_most}
-use Rattle.plan_spec.specs.Vector.{Same}
+use Rattle.plan_spec.specs.Vector.{Vector, Same}
 use Rattle.plan_grid.specs.Bounds.{IsBeyond, IsInRange}
 use Rattle.plan_grid.proofs.Unique.{weight_divides}
 

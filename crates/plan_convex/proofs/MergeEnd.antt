@@ -1,8 +1,7 @@
 -- When both walks are at home again, the vertices close to a convex polygon, which holds just the sum of the two triangles.
 use Rattle.std.proofs.Common.{◌≡◌, pos, ◌+◌, ◌≤◌, ◌≤ℤ◌, ◌↔◌, ◌∙◌, sym, ap₂, subst, List, [], ◌∷◌, length, arith}
 use Rattle.std.proofs.lemmas.List.Elements.{All-head}
-use Rattle.plan_exact.specs.Vectors.{Vector}
-use Rattle.plan_spec.specs.Vector.{IsPoint}
+use Rattle.plan_spec.specs.Vector.{Vector, IsPoint}
 use Rattle.plan_spec.specs.Polygon.{Inside, OnOrLeft}
 use Rattle.plan_grid.specs.declared.spot.Spot.{Spot}
 use Rattle.plan_convex.specs.declared.walk.Walk.{Walk}

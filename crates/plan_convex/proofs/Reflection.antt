@@ -2,10 +2,9 @@
 use Rattle.std.proofs.Common.{◌≡◌, inl, inr, ℤ, pos, ◌≤ℤ◌, ◌<ℤ◌, ◌↔◌, sym, subst, List, [], ◌∷◌, ◌++◌, map, arith}
 use Rattle.std.proofs.lemmas.Int.{ints}
 use Rattle.plan_exact.specs.Expr.{var}
-use Rattle.plan_exact.specs.Vectors.{Vector}
 use Rattle.plan_exact.specs.Formal as F
 use Rattle.plan_exact.proofs.Ring.{ring}
-use Rattle.plan_spec.specs.Vector.{IsPoint, turn, minus}
+use Rattle.plan_spec.specs.Vector.{Vector, IsPoint, turn, minus}
 use Rattle.plan_spec.specs.Polygon.{Inside}
 use Rattle.plan_plane.proofs.Polygon.Triangle.{sides, held, inside_turned}
 use Rattle.plan_grid.specs.declared.spot.Spot.{Spot}

@@ -3,11 +3,10 @@ use Rattle.std.proofs.Common.{◌≡◌, ◌↔◌, ℕ, ◌*◌, ◌<◌, pos, 
 use Rattle.std.proofs.lemmas.Int.{ints}
 use Rattle.plan_exact.specs.Expr.{var, con, ◌⊕◌, ◌⊖◌, ◌⊗◌}
 use Rattle.plan_exact.specs.Sign.{is_negative, is_zero, is_positive}
-use Rattle.plan_exact.specs.Vectors.{Vector}
 use Rattle.plan_exact.proofs.Certificates.{lt_from}
 use Rattle.plan_exact.proofs.Laws.{linear, mul_comm}
 use Rattle.plan_exact.proofs.Signs.{signs, sign_of, sub_nonneg, mul_le_mul, zero_of_mul_left, mul_nonneg, le_of_lt}
-use Rattle.plan_spec.specs.Vector.{IsPoint}
+use Rattle.plan_spec.specs.Vector.{Vector, IsPoint}
 use Rattle.plan_spec.specs.Boundary.{StrictlyInside}
 use Rattle.plan_spec.specs.Weights.{Weights, IsWeights, IsInner, weighted}
 use Rattle.plan_plane.proofs.Boundary.Beside.{near_first, near_last}

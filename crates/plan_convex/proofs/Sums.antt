@@ -1,14 +1,13 @@
 -- The sum of two triangles and the lines that border it. A combination of three of its points has its two parts by the same weights; and what is left of a line of the sum is so since both parts are left of the lines through the corners there.
 use Rattle.std.proofs.Common.{◌≡◌, pos, ◌+ℤ◌, ◌*ℤ◌, ◌≤ℤ◌, ◌<ℤ◌, sym, subst, List, [], ◌∷◌, ◌++◌, arith}
 use Rattle.plan_exact.specs.Expr.{var, con, ◌⊕◌, ◌⊗◌}
-use Rattle.plan_exact.specs.Vectors.{Vector}
 use Rattle.plan_exact.specs.Formal as F
 use Rattle.plan_exact.proofs.Certificates.{le_from}
 use Rattle.plan_exact.proofs.Laws.{linear}
 use Rattle.plan_exact.proofs.Ring.{ring}
 use Rattle.plan_exact.proofs.RingVectors.{ring_vectors}
 use Rattle.plan_exact.proofs.Signs.{signs, mul_pos}
-use Rattle.plan_spec.specs.Vector.{IsPoint, turn, minus}
+use Rattle.plan_spec.specs.Vector.{Vector, IsPoint, turn, minus}
 use Rattle.plan_spec.specs.Polygon.{Inside}
 use Rattle.plan_plane.proofs.Polygon.Triangle.{LeftOfSides, sides, held}
 use Rattle.plan_grid.specs.declared.spot.Spot.{Spot}

@@ -2,12 +2,11 @@
 use Rattle.std.proofs.Common.{◌≡◌, ◌⊎◌, inl, inr, ℕ, zero, suc, ℤ, pos, negsuc, ◌+◌, ◌<◌, ◌≤◌, ◌-ℤ◌, ◌*ℤ◌, ◌≤ℤ◌, ◌<ℤ◌, ◌∙◌, refl, sym, ap, subst, [], ◌∷◌, arith, add-one}
 use Rattle.std.proofs.lemmas.Int.{ints}
 use Rattle.std.specs.Int.RustNames.{unsigned_abs}
-use Rattle.plan_exact.specs.Vectors.{Vector}
 use Rattle.plan_exact.specs.Sign.{Sign, is_negative, is_zero, is_positive}
 use Rattle.plan_exact.proofs.Laws.{linear}
 use Rattle.plan_exact.proofs.Ring.{ring}
 use Rattle.plan_exact.proofs.Signs.{sign_of, mul_zero}
-use Rattle.plan_spec.specs.Vector.{Before}
+use Rattle.plan_spec.specs.Vector.{Vector, Before}
 use Rattle.plan_spec.specs.Polygon.{Inside}
 use Rattle.plan_plane.proofs.Polygon.Triangle.{inside_turned}
 use Rattle.plan_grid.specs.declared.spot.Spot.{Spot}

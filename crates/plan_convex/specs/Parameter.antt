@@ -1,7 +1,7 @@
 -- How far a point is along an edge: fractions from 0 at its first end to 1 at its second.
 use Rattle.std.specs.Prelude.{ℤ, pos, ◌+ℤ◌, ◌-ℤ◌, ◌*ℤ◌, ◌<ℤ◌, ◌≤ℤ◌, ◌^◌, Bool, int_le}
 use Rattle.plan_grid.specs.Fraction.{Fraction}
-use Rattle.plan_exact.specs.Vectors.{Vector}
+use Rattle.plan_spec.specs.Vector.{Vector}
 use Rattle.plan_spec.specs.Weights.{Weights, weighted}
 
 -- by value, where the denominators are positive

@@ -1,8 +1,7 @@
 -- What a `Piece` can hold, and sums as lists of points of the plane.
 use Rattle.std.specs.Prelude.{pos, ◌<ℤ◌, ◌^◌, List, map}
-use Rattle.plan_exact.specs.Vectors.{Vector}
 use Rattle.plan_spec.specs.Pieces.{Piece}
-use Rattle.plan_spec.specs.Vector.{Before}
+use Rattle.plan_spec.specs.Vector.{Vector, Before}
 use Rattle.plan_grid.specs.declared.spot.Spot.{Spot}
 use Rattle.plan_grid.specs.Spot.{spots_seen}
 

@@ -1,7 +1,6 @@
 -- Walks round triangles, and the points that two triangles have as sums.
 use Rattle.std.specs.Prelude.{◌≡◌, pos, ◌+◌, ◌<ℤ◌, List, [], ◌∷◌}
-use Rattle.plan_exact.specs.Vectors.{Vector}
-use Rattle.plan_spec.specs.Vector.{IsPoint, minus}
+use Rattle.plan_spec.specs.Vector.{Vector, IsPoint, minus}
 use Rattle.plan_spec.specs.Polygon.{Inside, IsFromLeast}
 use Rattle.plan_grid.specs.declared.spot.Spot.{Spot}
 use Rattle.plan_grid.specs.Spot.{spots_seen, way, cross}

@@ -1,6 +1,5 @@
 ghost use Rattle.std.specs.Prelude.{◌≡◌, ◌↔◌, map};
-ghost use Rattle.plan_exact.specs.Vectors.{Vector};
-ghost use Rattle.plan_spec.specs.Vector.{IsPoint, minus};
+ghost use Rattle.plan_spec.specs.Vector.{Vector, IsPoint, minus};
 ghost use Rattle.plan_spec.specs.Polygon.{Inside};
 ghost use Rattle.plan_grid.specs.Spot.{spots_seen, opposite};
 ghost use Rattle.plan_grid.specs.Triangle.{IsCounterclockwise};

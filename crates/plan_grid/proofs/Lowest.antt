@@ -5,12 +5,11 @@ use Rattle.std.proofs.lemmas.Int.{ints, unsigned_abs-mul}
 use Rattle.std.proofs.lemmas.Nat.Gcd.{le_of_dvd, dvd_trans, dvd-zero}
 use Rattle.std.proofs.Math.Nat.{eq-one_of_dvd-one, eq-zero_of_zero-dvd, mul-dvd-mul_left, dvd_of_mul-dvd-mul_left, le_of_mul-le-mul_left}
 use Rattle.plan_exact.specs.Expr.{var, ◌⊗◌}
-use Rattle.plan_exact.specs.Vectors.{Vector}
 use Rattle.plan_exact.proofs.Ring.{ring}
 use Rattle.plan_exact.proofs.Laws.{linear, mul_comm, zero_mul}
 use Rattle.plan_exact.proofs.Signs.{pos_of_mul}
 use Rattle.plan_exact.proofs.Sizes.{product_at_most}
-use Rattle.plan_spec.specs.Vector.{spot, Same}
+use Rattle.plan_spec.specs.Vector.{Vector, spot, Same}
 use Rattle.plan_grid.specs.Fraction.{Fraction, SameValue, IsRatio}
 use Rattle.plan_grid.specs.Bounds.{IsInRange, IsBounded, IsLowest, IsDivisor}
 

@@ -6,11 +6,10 @@ use Rattle.std.specs.declared.cmp.Ordering.TheVariants.{Equal}
 use Rattle.std.proofs.lemmas.Int.{ints, unsigned_abs-mul}
 use Rattle.std.proofs.lemmas.Nat.Gcd.{IsGcd-from_zero, IsGcd-from_mod, dvd_trans, dvd_antisymm}
 use Rattle.std.proofs.Math.Nat.{dvd-mul_left}
-use Rattle.plan_exact.specs.Vectors.{Vector}
 use Rattle.plan_exact.proofs.Laws.{linear, zero_mul}
 use Rattle.plan_exact.proofs.RingVectors.{vector_path}
 use Rattle.plan_exact.proofs.Signs.{eq_of_mul}
-use Rattle.plan_spec.specs.Vector.{SameX, SameY, Same}
+use Rattle.plan_spec.specs.Vector.{Vector, SameX, SameY, Same}
 use Rattle.plan_grid.specs.Bounds.{IsLowest, IsInRange}
 use Rattle.plan_grid.specs.Fraction.{Fraction, SameValue, IsRatio}
 use Rattle.plan_grid.specs.FractionOrder.{order_is_cmp}

@@ -1,7 +1,7 @@
 -- The rational points that a `Point` can hold.
 use Rattle.std.specs.Prelude.{◌≡◌, ℕ, ℤ, pos, ◌<ℤ◌, ◌≤ℤ◌, ◌<◌, ◌≤◌, ◌*◌, ◌^◌, unsigned_abs, ◌⊎◌}
 use Rattle.std.specs.Int.{◌∣◌}
-use Rattle.plan_exact.specs.Vectors.{Vector}
+use Rattle.plan_spec.specs.Vector.{Vector}
 use Rattle.plan_grid.specs.declared.bounds.TheConstants.{MOST_COORDINATE, MOST_WEIGHT}
 
 -- no number above 1 divides all three

@@ -3,7 +3,7 @@ use Rattle.std.specs.Prelude.{◌≡◌, Bool, ℕ, ℤ, pos, ◌+ℤ◌, ◌-�
 use Rattle.std.specs.Int.{◌∣◌, int_max}
 use Rattle.std.specs.Ordering.{int_cmp, is_eq}
 use Rattle.std.specs.declared.cmp.Ordering.{Ordering}
-use Rattle.plan_exact.specs.Vectors.{Vector}
+use Rattle.plan_spec.specs.Vector.{Vector}
 use Rattle.plan_grid.specs.declared.bounds.TheConstants.{MOST_COORDINATE, MOST_DENOMINATOR}
 
 -- num / den

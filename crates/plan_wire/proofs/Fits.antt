@@ -11,6 +11,7 @@ use Rattle.std.proofs.lemmas.Option.{cond_some, same_Some, some_pair_parts, opti
 use Rattle.serde_json.specs.Data.{Data}
 use Rattle.serde_json.specs.Find.{as_i64, as_number, get}
 use Rattle.serde_json.specs.Read as json
+use Rattle.plan_exact.proofs.Tests.{lt_from_true}
 use Rattle.plan_spec.specs.Vector.{Vector, spot, turn}
 use Rattle.plan_spec.specs.Placement.{Scene}
 use Rattle.plan_grid.specs.declared.bounds.TheConstants.{MOST_CORNER, MOST_COORDINATE}
@@ -139,9 +140,6 @@ shape_kept v spots read = option_and_then_some shape_from (elements v) (map spot
 
 -- ---- frames
 
-below : (a b : ℤ) → int_lt a b ≡ true → a <ℤ b
-below a b test = grind (arith, ints)
-
 frame_of_four : (x1 y1 x2 y2 : Data) (f : Frame) → frame_from (x1 ∷ y1 ∷ x2 ∷ y2 ∷ []) ≡ Some (frame_seen f) → IsFrame f
 unfolding frame_from
 frame_of_four x1 y1 x2 y2 f read =
@@ -154,8 +152,8 @@ frame_of_four x1 y1 x2 y2 f read =
     record {
       low = spot_bounded MOST_CORNER x1 y1 f.low (low_read ∙ ap Some is_low);
       high = spot_bounded MOST_CORNER x2 y2 f.high (high_read ∙ ap Some is_high);
-      wide = below f.low.x f.high.x (rw (is_low, is_high) at tests.0);
-      tall = below f.low.y f.high.y (rw (is_low, is_high) at tests.1);
+      wide = lt_from_true f.low.x f.high.x (rw (is_low, is_high) at tests.0);
+      tall = lt_from_true f.low.y f.high.y (rw (is_low, is_high) at tests.1);
     }))
 
 frame_list_kept : (items : List Data) (f : Frame) → frame_from items ≡ Some (frame_seen f) → IsFrame f

@@ -3,10 +3,8 @@ use Rattle.std.proofs.Common.{rules, ◌≡◌, ℕ, ℤ, pos, ◌*ℤ◌, ◌�
 use Rattle.std.specs.Int.{w128}
 use Rattle.std.specs.Int.RustNames.{int_lt, int_le}
 use Rattle.std.proofs.lemmas.Int.{ints, fits_signed_mul}
+use Rattle.plan_exact.proofs.Tests.{le_from_false}
 use Rattle.plan_grid.proofs.tests.height_between.Goals as goal
-
-not_above : (a b : ℤ) → int_lt a b ≡ false → b ≤ℤ a
-not_above a b h = grind (arith, ints)
 
 not_reached : (k : ℕ) (d : ℤ) → int_le (pos k) d ≡ false → pos 1 ≤ℤ d → unsigned_abs d < k
 not_reached k d h p = grind (arith, ints)
@@ -24,7 +22,7 @@ height-requires-clause-from c =
     let a_small : unsigned_abs c.from.result ≤ 2 ^ 31 = rw a (omega (arith, ints, a_narrow.sfits)) in
     let d_small : unsigned_abs c.den-den.result ≤ 2 ^ 52 = rw c.den-den.ensures.value c.den-den.ensures.in_range.den_bounded in
     let p = product_fits c.from.result c.den-den.result a_small d_small in
-    rw (← a, ← c.den-den.ensures.value, ← c.num-num.ensures.value) (not_above _ _ (simp to_z-of_z at c.if-left-num.false))
+    rw (← a, ← c.den-den.ensures.value, ← c.num-num.ensures.value) (le_from_false _ _ (simp to_z-of_z at c.if-left-num.false))
 
 pub height-requires-clause-to : goal.height-requires-clause-to
 height-requires-clause-to c =
@@ -36,7 +34,7 @@ height-requires-clause-to c =
     let b_small : unsigned_abs c.from-2.result ≤ 2 ^ 31 = rw b (omega (arith, ints, b_narrow.sfits)) in
     let d_small : unsigned_abs c.den-den.result ≤ 2 ^ 52 = rw c.den-den.ensures.value c.den-den.ensures.in_range.den_bounded in
     let p = product_fits c.from-2.result c.den-den.result b_small d_small in
-    rw (← b, ← c.den-den.ensures.value, ← c.num-num.ensures.value) (not_above _ _ (simp to_z-of_z at c.if-num-right.false))
+    rw (← b, ← c.den-den.ensures.value, ← c.num-num.ensures.value) (le_from_false _ _ (simp to_z-of_z at c.if-num-right.false))
 
 pub height-requires-clause-den_bounded : goal.height-requires-clause-den_bounded
 height-requires-clause-den_bounded c =
