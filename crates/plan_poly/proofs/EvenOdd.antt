@@ -3,5 +3,6 @@ pub mod Chains
 pub mod Turned
 pub mod Walk
 pub mod Backwards
+pub mod Orders
 pub mod Triangle
 pub mod ThreeSides

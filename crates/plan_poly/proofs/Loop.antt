@@ -4,5 +4,4 @@ pub mod Parts
 pub mod Corner
 pub mod Straight
 pub mod Backwards
-pub mod Three
 pub mod Simple

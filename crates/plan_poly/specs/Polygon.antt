@@ -1,7 +1,8 @@
 -- What a polygon of spots is, and what reading a list of spots answers.
-use Rattle.std.specs.Prelude.{◌≡◌, ℕ, ◌<◌, ◌≤◌, ◌⊎◌, List, ◌++◌, length, reverse, get_or, All}
+use Rattle.std.specs.Prelude.{◌≡◌, ◌↔◌, ℕ, ◌<◌, ◌≤◌, ◌⊎◌, List, ◌++◌, length, reverse, get_or, All}
+use Rattle.plan_spec.specs.Vector.{Vector}
 use Rattle.plan_spec.specs.Polygon.{IsFromLeast}
-use Rattle.plan_spec.specs.SimplePolygon.{IsSimple, TurnsLeft, IsFirstWrongPair}
+use Rattle.plan_spec.specs.SimplePolygon.{InPolygon, IsSimple, TurnsLeft, IsFirstWrongPair}
 use Rattle.plan_grid.specs.declared.spot.Spot.{Spot}
 use Rattle.plan_grid.specs.Spot.{spots_seen, IsWithin}
 use Rattle.plan_poly.specs.declared.fault.PolyFault.{PolyFault}
@@ -25,11 +26,12 @@ abbrev pub IsRotation : List Spot → List Spot → Type 0
 IsRotation xs ys = (pre : List Spot) × (post : List Spot) × (xs ≡ pre ++ post) × (ys ≡ post ++ pre)
 
 -- the given list is simple, and is kept in its cyclic order, or in the opposite one; which of the two, and from which vertex on,
--- follows from the polygon running counterclockwise from its least vertex
+-- follows from the polygon running counterclockwise from its least vertex; so it holds the same points
 pub record IsRead (given kept : List Spot) : Type 0 where
   pub given_simple : IsSimpleList given
   pub polygon : IsPolygon kept
   pub order : IsRotation given kept ⊎ IsRotation (reverse given) kept
+  pub same_points : (z : Vector) → InPolygon (spots_seen given) z ↔ InPolygon (spots_seen kept) z
 
 -- spot i is the first that is out of range
 pub record IsFirstOut (spots : List Spot) (i : ℕ) : Type 0 where

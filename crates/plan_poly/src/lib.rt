@@ -5,6 +5,7 @@
 mod edge;
 mod fault;
 mod first_wrong;
+pub mod laws;
 mod least;
 mod polygon;
 

@@ -99,8 +99,6 @@ is_nonpos : (z a : Vector) → is_right z a ≡ false → right z a ≤ℤ pos 0
 is_nonpos z a e = let h = le_in (z.x *ℤ a.w) (a.x *ℤ z.w) e in omega (arith, linear)
 
 -- ---- strictly inside: odd
-zero_from : (n : ℤ) → (m : ℤ) → pos 0 <ℤ m → n ≤ℤ pos 0 → (m *ℤ n) ≡ pos 0 → n ≡ pos 0
-zero_from n m hm hn e = zero_of_mul m n hm e
 
 pub odd_inside : (a b c z : Vector) → IsPoint z → pos 0 <ℤ turn a b c → pos 0 <ℤ turn b c z → pos 0 <ℤ turn c a z → pos 0 <ℤ turn a b z → parity (edges (a ∷ b ∷ c ∷ [])) z ≡ true
 odd_inside a b c z hz left ta tb tc =

@@ -3,7 +3,7 @@ use Rattle.std.proofs.Common.{◌≡◌, inl, inr, suc, ◌-◌, ◌≤◌, pos,
 use Rattle.std.proofs.Math.Seq.{drop-append_seam, take-append_seam}
 use Rattle.std.proofs.lemmas.Grind.{reverse_onto}
 use Rattle.std.proofs.lemmas.Int.{ints}
-use Rattle.std.proofs.lemmas.List.{append-nil, reverse-append, map-append, length-reverse, length-append}
+use Rattle.std.proofs.lemmas.List.{append-nil, reverse-append, length-reverse, length-append}
 use Rattle.std.proofs.lemmas.List.Elements.{All-nil, All-cons, All-append}
 use Rattle.plan_spec.specs.Vector.{IsPoint, turn}
 use Rattle.plan_spec.specs.Polygon.{IsFromLeast}
@@ -14,6 +14,7 @@ use Rattle.plan_grid.specs.Spot.{spot_seen, spots_seen, IsWithin}
 use Rattle.plan_plane.proofs.Backwards.{all_back, back_is}
 use Rattle.plan_plane.proofs.Lists.{all_left, all_right}
 use Rattle.plan_poly.specs.Polygon.{IsSimpleList, IsPolygon, IsRotation, IsRead}
+use Rattle.plan_poly.proofs.EvenOdd.Orders.{reverse_seen, same_points}
 use Rattle.plan_poly.proofs.FromLeast.Kept.{Left, as_it_is, the_other_way, from_least_is}
 use Rattle.plan_poly.proofs.Loop.Loop.{Loop}
 use Rattle.plan_poly.proofs.Loop.Simple.{simple_loop, loop_simple}
@@ -63,11 +64,7 @@ length_flip [] = refl
 length_flip (v ∷ vs) = ap suc (length-reverse vs)
 
 flip_seen : (v : Spot) (vs : List Spot) → spots_seen (flip (v ∷ vs)) ≡ spot_seen v ∷ reverse (spots_seen vs)
-flip_seen v vs = ap (λ zs. spot_seen v ∷ zs) (reversed vs)
-  where
-    reversed : (vs : List Spot) → spots_seen (reverse vs) ≡ reverse (spots_seen vs)
-    reversed [] = refl
-    reversed (w ∷ ws) = ap spots_seen (reverse_is w ws) ∙ map-append spot_seen (reverse ws) (w ∷ []) ∙ ap (λ zs. zs ++ spot_seen w ∷ []) (reversed ws) ∙ sym (reverse_onto (spots_seen ws) (spot_seen w) [])
+flip_seen v vs = ap (λ zs. spot_seen v ∷ zs) (reverse_seen vs)
 
 -- ---- the turn at the first spot
 last_seen : (c : Spot) (rest : List Spot) → spot_seen (vertex (c ∷ rest) (length rest)) ≡ last (spot_seen c) (spots_seen rest)
@@ -125,6 +122,7 @@ read_as_is given s h e r n =
       given_simple = h;
       polygon = polygon_of s three (omega (arith, size, h.at_most_32)) (all_rotated (IsWithin 1023) given s r h.bounded) (left_as_is s three k.0 k.1 n);
       order = inl r;
+      same_points = same_points given s (inl r);
     }
 
 pub read_other_way : (given s : List Spot) → IsSimpleList given → spots_seen s ≡ from_least (spots_seen given) → IsRotation given s → turn_at_first s → IsRead given (flip s)
@@ -136,4 +134,5 @@ read_other_way given s h e r right =
       given_simple = h;
       polygon = polygon_of (flip s) (omega (arith, three, length_flip s)) (omega (arith, size, h.at_most_32, length_flip s)) (all_flipped (IsWithin 1023) s (all_rotated (IsWithin 1023) given s r h.bounded)) (left_other_way s three k.0 k.1 right);
       order = inr (rotation_flipped given s r);
+      same_points = same_points given (flip s) (inr (rotation_flipped given s r));
     }

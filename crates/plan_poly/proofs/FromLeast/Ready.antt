@@ -73,9 +73,6 @@ ready (a ∷ vs) l long =
 pub to_list : {vs : List Vector} (r : Ready vs) (R : List Vector → Type 0) → Kept R → R (polygon r.v r.w r.mid r.u) → R vs
 to_list {vs} r R kept h = subst R (sym r.parts) (back_again R kept r.pre r.v r.post (subst R (sym r.same) h))
 
-pub to_least : {vs : List Vector} (r : Ready vs) (R : List Vector → Type 0) → Kept R → R vs → R (polygon r.v r.w r.mid r.u)
-to_least {vs} r R kept h = subst R r.same (forth R kept r.pre r.v r.post (subst R r.parts h))
-
 pub split_last : (m : Vector) (ms : List Vector) (u : Vector) → last m (ms ++ u ∷ []) ≡ u
 split_last m [] u = refl
 split_last m (n ∷ ms) u = split_last n ms u

@@ -3,7 +3,7 @@ use Rattle.std.proofs.Common.{◌≡◌, ◌↔◌, inl, inr, ℕ, suc, ◌+◌,
 use Rattle.std.specs.Prelude.{slice_get, IsSomeAnd}
 use Rattle.std.proofs.lemmas.Option.{get_or_from_slice_get}
 use Rattle.plan_spec.specs.Vector.{Vector, IsPoint, Same}
-use Rattle.plan_spec.specs.Segment.{Segment, segment, HasPoints, On, Common}
+use Rattle.plan_spec.specs.Segment.{Segment, segment, HasPoints, On}
 use Rattle.plan_spec.specs.Polygon.{edges}
 use Rattle.plan_spec.specs.SimplePolygon.{OnEdge, IsVertex, IsSharedVertex, ShareAnother}
 use Rattle.plan_plane.proofs.Polygon.Numbered.{edge_at, edge_next, edge_last}
@@ -93,13 +93,3 @@ round_fold {vs} {i} {j} {s} {t} k first last = folds_back (record {
     shared_is : (z : Vector) → IsSharedVertex vs i j z → Same z s.a
     shared_is z (inl h) = absurd (let e = h.0 in omega (arith, e, first, last, k.three))
     shared_is z (inr h) = subst (Same z) (sym starts) ((is_vertex vs 0 s.a z (omega (arith, k.three))).0 h.2)
-
-pub apart_meet : {vs : List Vector} {i j : ℕ} {s t : Segment} → EdgePair vs i j s t → ¬ (j ≡ i + 1) → ((i ≡ 0) → (j + 1 ≡ length vs) → ⊥) → ShareAnother vs i j ↔ Common s t
-apart_meet {vs} {i} {j} {s} {t} k next round = (
-  λ (z, hz, oi, oj, n). (z, hz, (on_edge vs i s z k.first).0 oi, (on_edge vs j t z k.second).0 oj),
-  λ (z, hz, os, ot). (z, hz, (on_edge vs i s z k.first).1 os, (on_edge vs j t z k.second).1 ot, none z),
-)
-  where
-    none : (z : Vector) → ¬ (IsSharedVertex vs i j z)
-    none z (inl h) = next h.0
-    none z (inr h) = round h.0 h.1

@@ -22,7 +22,6 @@ use Rattle.plan_plane.proofs.Segment.Between.{on, Between, between, dot_between,
 use Rattle.plan_plane.proofs.Segment.OneLine.{in_line}
 use Rattle.plan_plane.proofs.Segment.Same.{on_same, Same-swapped}
 use Rattle.plan_plane.proofs.Segment.AtEnds.{second_weight, first_weight}
-use Rattle.plan_plane.proofs.Segment.Whether.{any_on, same_or_not}
 use Rattle.plan_cross.proofs.ParityLaw.Closed.{parity_constant}
 use Rattle.plan_cross.proofs.ParityLaw.Route.{any_or_none}
 use Rattle.plan_tri.proofs.Corner.Beside.{beside, off_chain}
@@ -209,25 +208,3 @@ even {v} {w} {u} {x} {g} {one} {two} {ts} h d z hz in_one off = by (parity (edge
     by : (t : Bool) → parity (edges two) z ≡ t → t ≡ false
     by false e = refl
     by true e = absurd (odd_nowhere h (found v w u x g z one two ts h d (d.held z hz in_one)) hz off e)
-
--- ---- a point of both parts is on the diagonal
-pub shared : {v w u x g : Vector} {one two : List Vector} {ts : List Triangle} → Halves v w u x g one two → Triangulated one ts → (z : Vector) → IsPoint z → InPolygon one z → InPolygon two z → On (segment v x) z
-shared {v} {w} {u} {x} {g} {one} {two} h d z hz in_one in_two = by (any_on (edges two) z)
-  where
-    ends : (s : Segment) → (s ≡ segment v x) ⊎ OutOf one v x s → On s z → On (segment v x) z
-    ends s (inl e) o = subst (λ s. On s z) e o
-    ends s (inr out) o = elim (same_or_not z v) [
-      | inl e ↦ same_on h v z h.corner.point_v hz (on (between_first v x h.corner.point_v)) (Same-swapped z v e)
-      | inr n ↦ elim (same_or_not z x) [
-        | inl e ↦ same_on h x z h.point_x hz (on (between_second v x h.point_x)) (Same-swapped z x e)
-        | inr k ↦ absurd (out z hz o n k in_one)
-      ]
-    ]
-
-    off : All (λ s. ¬ (On s z)) (edges two) → InPolygon two z → ⊥
-    off n (inl m) = n m.0 m.1 m.2 (subst (λ s. On s z) (sym m.3) m.4)
-    off n (inr odd) = true≢false (sym odd ∙ even h d z hz in_one n)
-
-    by : Any (λ s. On s z) (edges two) ⊎ All (λ s. ¬ (On s z)) (edges two) → On (segment v x) z
-    by (inl m) = ends (get_or (edges two) m.0 m.1) (h.outside_one m.0 m.1 m.2) (subst (λ s. On s z) (sym m.3) m.4)
-    by (inr n) = absurd (off n in_two)

@@ -35,7 +35,6 @@ use Rattle.plan_poly.proofs.EvenOdd.Triangle.{inside_from, odd_inside}
 use Rattle.plan_poly.proofs.Loop.Corner.{AtCorner, points_of, first_meets, last_meets, Points, right_of_v}
 use Rattle.plan_poly.proofs.Loop.Loop.{IsEnd, MeetRight, Loop, meet_reversed}
 use Rattle.plan_poly.proofs.Loop.Parts.{EndWhereOn, vertices_end, rotated, loop_part}
-use Rattle.plan_poly.proofs.Loop.Three.{same_w}
 use Rattle.plan_tri.proofs.Corner.Beside.{off_chain, beside_ahead}
 use Rattle.plan_tri.proofs.Corner.Clean.{Shape, clean}
 use Rattle.plan_tri.proofs.Corner.Corner.{Corner, Clean, OutOfWay, InCorner}
@@ -82,6 +81,14 @@ ear_shape {v} {w} {mid} {u} k = record {
 
 ear_clean : {v w : Vector} {mid : List Vector} {u : Vector} → AtEar v w mid u → All (Clean v w u (cross w u)) (chain w mid u)
 ear_clean k = clean (ear_shape k)
+
+-- ---- where the lines of two sides meet
+same_w : (v w u c : Vector) → pos 0 <ℤ turn u v w → turn v w c ≡ pos 0 → turn w u c ≡ pos 0 → Same c w
+same_w v w u c h a f =
+    let xs = env [] (v ∷ w ∷ u ∷ c ∷ []) in (
+      eq_from xs (F.det C A B) ((A.x ⊗ B.w ⊖ B.x ⊗ A.w) ⊗ F.det B C D ⊕ (C.x ⊗ B.w ⊖ B.x ⊗ C.w) ⊗ F.det A B D) (D.x ⊗ B.w) (B.x ⊗ D.w) tt h (search zeros),
+      eq_from xs (F.det C A B) ((A.y ⊗ B.w ⊖ B.y ⊗ A.w) ⊗ F.det B C D ⊕ (C.y ⊗ B.w ⊖ B.y ⊗ C.w) ⊗ F.det A B D) (D.y ⊗ B.w) (B.y ⊗ D.w) tt h (search zeros),
+    )
 
 same_u : (v w u c : Vector) → pos 0 <ℤ turn u v w → turn u v c ≡ pos 0 → turn w u c ≡ pos 0 → Same c u
 same_u v w u c h b f =
@@ -247,9 +254,6 @@ ear_meets_reversed {v} {w} {mid} {u} k e o he out vo w_ends u_ends clear z hz a 
     (λ y hy on. clear y hy (on_reversed e o y on))
     z hz a (on_reversed o e z b) in
     (m.0, end_turned e o z m.1)
-
-out_vertex : Vector → Vector → Vector → Vector → Type 0
-out_vertex v w u e = IsPoint e × ¬ (InTriangle v w u e)
 
 -- what is known of the end w, and of the end u, along the path
 path_ends : {v w : Vector} {mid : List Vector} {u : Vector} → AtEar v w mid u → (y : Vector) → All (EndWhereOn y) (edges (polygon v w mid u)) → All (EndWhereOn y) (chain w mid u)

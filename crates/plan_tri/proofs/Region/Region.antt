@@ -1,15 +1,13 @@
 -- The triangles of a simple polygon, wherever its list begins.
 use Rattle.plan_poly.proofs.FromLeast.Ready.{to_list, split_last, ready}
 use Rattle.plan_tri.proofs.Region.Triangulated.{triangles_turned, Triangulated}
-use Rattle.plan_spec.specs.Triangulation.{from_least, triangles, triangles_within, corners}
-use Rattle.plan_spec.specs.SimplePolygon.{InPolygon, IsSimple, TurnsLeft}
-use Rattle.plan_spec.specs.Vector.{IsPoint, Vector, turn}
+use Rattle.plan_spec.specs.Triangulation.{from_least, triangles_within}
+use Rattle.plan_spec.specs.SimplePolygon.{TurnsLeft}
+use Rattle.plan_spec.specs.Vector.{Vector, turn}
 use Rattle.plan_poly.proofs.Loop.Loop.{Loop}
-use Rattle.std.proofs.Common.{ℕ, ◌≤◌, ◌↔◌, All, Any, pos, ◌<ℤ◌, List, [], ◌∷◌, subst, sym, arith, length}
-use Rattle.plan_spec.specs.Polygon.{Inside}
+use Rattle.std.proofs.Common.{ℕ, ◌≤◌, pos, ◌<ℤ◌, List, [], ◌∷◌, subst, sym, arith, length}
 use Rattle.plan_plane.proofs.Polygon.Corner.{polygon}
 use Rattle.plan_poly.proofs.Loop.Corner.{AtCorner}
-use Rattle.plan_poly.proofs.Loop.Simple.{simple_loop}
 use Rattle.plan_tri.proofs.Region.Steps.{region, own_least, same_triangles}
 
 turns_left : (v w : Vector) (mid : List Vector) (u : Vector) → TurnsLeft (polygon v w mid u) → pos 0 <ℤ turn u v w
@@ -22,11 +20,3 @@ whole vs l long turns k size =
     let at : AtCorner r.v r.w r.mid r.u = record { loop = r.loop; least = r.first; turns_left = turns_left r.v r.w r.mid r.u (subst TurnsLeft r.from turns) } in
     let list = polygon r.v r.w r.mid r.u in
     subst (Triangulated vs) (sym (same_triangles k vs list r.from (own_least at))) (to_list r (λ us. Triangulated us (triangles_within k list)) (triangles_turned (triangles_within k list)) (region k r.v r.w r.mid r.u (omega (arith, size, r.size)) at))
-
-pub in_some : (vs : List Vector) → Loop vs → 3 ≤ length vs → TurnsLeft (from_least vs) → (z : Vector) → IsPoint z → InPolygon vs z ↔ Any (λ t. Inside (corners t) z) (triangles vs)
-in_some vs l long turns z hz =
-    let d = whole vs l long turns (length vs) (omega arith) in
-    (d.held z hz, λ m. d.within m.0 m.1 m.2 z hz (subst (λ t. Inside (corners t) z) (sym m.3) m.4))
-
-pub simple_region : (vs : List Vector) → 3 ≤ length vs → All IsPoint vs → IsSimple vs → TurnsLeft (from_least vs) → (k : ℕ) → length vs ≤ k → Triangulated vs (triangles_within k vs)
-simple_region vs long points simple turns k size = whole vs (simple_loop vs long points simple) long turns k size
