@@ -8,6 +8,7 @@ use Rattle.plan_spec.specs.Vector.{IsPoint, Same}
 use Rattle.plan_spec.specs.Segment.{Segment, On, HasPoints, segment}
 use Rattle.plan_spec.specs.Frame.{Frame}
 use Rattle.plan_spec.specs.Pieces.{ArePieces, Piece}
+use Rattle.plan_plane.proofs.Lists.{zip_push}
 use Rattle.plan_plane.proofs.Segment.Reversed.{on_reversed}
 use Rattle.plan_plane.proofs.Segment.Same.{on_same, Same-swapped}
 use Rattle.plan_convex.specs.declared.part.Part.{Part}
@@ -16,12 +17,6 @@ use Rattle.plan_bound.specs.Pieces.{IsPieceOf}
 use Rattle.plan_bound.proofs.Maximal.{before_same, ends_same}
 
 -- ---- the loop
-zip_push : {X Y : Type 0} (R : X → Y → Type 0) (xs : List X) (ys : List Y) (x : X) (y : Y) → AllZip R xs ys → R x y → AllZip R (xs ++ x ∷ []) (ys ++ y ∷ [])
-zip_push R [] [] x y h k = (k, tt)
-zip_push R [] (v ∷ ys) x y h k = absurd h
-zip_push R (u ∷ xs) [] x y h k = absurd h
-zip_push R (u ∷ xs) (v ∷ ys) x y h k = (h.0, zip_push R xs ys x y h.1 k)
-
 pub kept_more : {X Y : Type 0} (R : X → Y → Type 0) (p : X → Bool) (xs : List X) (ys : List Y) (i : ℕ) (x : X) (y : Y) → i < length xs → x ≡ get_or xs i x → p x ≡ true → AllZip R (filter p (take i xs)) ys → R x y → AllZip R (filter p (take (i + 1) xs)) (ys ++ y ∷ [])
 kept_more {X} R p xs ys i x y within is keep h k =
     let e : filter p (take (i + 1) xs) ≡ filter p (take i xs) ++ x ∷ [] = filter_more p xs i x within ∙ ap (λ v. filter p (take i xs) ++ cond (p v) (v ∷ []) []) (sym is) ∙ ap (λ t. filter p (take i xs) ++ cond t (x ∷ []) []) keep in

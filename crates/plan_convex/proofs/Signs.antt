@@ -1,5 +1,6 @@
 -- An ordering tells one sign of a number, so two orderings that tell the sign of one number are one.
 use Rattle.std.proofs.Common.{◌≡◌, ◌==◌, ℕ, zero, suc, ℤ, pos, Bool, true, false, not, refl, sym, ap, subst, ◌∙◌}
+use Rattle.std.proofs.lemmas.Bool.{not-false}
 use Rattle.std.proofs.lemmas.Bool.Decides.{Decides-eqb}
 use Rattle.std.specs.Ordering.{ordering_index}
 use Rattle.std.specs.declared.cmp.Ordering.{Ordering}
@@ -18,10 +19,6 @@ at_index Less = refl
 at_index Equal = refl
 at_index Greater = refl
 
-passed : (b : Bool) → false ≡ not b → b ≡ true
-passed true e = refl
-passed false e = absurd cc
-
 pub sign_differs : (o s : Ordering) (t : ℤ) → true ≡ not (ordering_index o == ordering_index s) → IsSign o t → ¬ (IsSign s t)
 sign_differs o s t test h k =
     let same : o ≡ s = order_is_cmp o t (pos 0) h ∙ sym (order_is_cmp s t (pos 0) k) in
@@ -30,5 +27,5 @@ sign_differs o s t test h k =
 
 pub sign_same : (o s : Ordering) (t : ℤ) → false ≡ not (ordering_index o == ordering_index s) → IsSign o t → IsSign s t
 sign_same o s t test h =
-    let equal = (Decides-eqb (ordering_index o) (ordering_index s)).0 (passed _ test) in
+    let equal = (Decides-eqb (ordering_index o) (ordering_index s)).0 (not-false _ (sym test)) in
     subst (λ r. IsSign r t) (sym (at_index o) ∙ ap ordering_at equal ∙ at_index s) h

@@ -2,6 +2,7 @@
 use Rattle.std.proofs.Common.{◌≡◌, ◌⊎◌, ◌↔◌, inl, inr, ℕ, zero, suc, pos, ◌==◌, Bool, true, false, not, ◌&&◌, int_eq, Decides, ◌*ℤ◌, ◌-◌, ◌<◌, List, [], ◌∷◌, length, slice_get, All, Any, IfSome, IsSomeAnd, ⊎_elim, refl, sym, ap, ◌∙◌, subst, arith}
 use Rattle.std.specs.List.{AllZip}
 use Rattle.std.proofs.lemmas.List.Elements.{All-map}
+use Rattle.std.proofs.lemmas.Bool.{not-false}
 use Rattle.std.proofs.lemmas.Bool.Decides.{Decides-int_eq, Decides-and, Decides-like, nat_tests}
 use Rattle.std.proofs.lemmas.List.{length-map}
 use Rattle.std.proofs.lemmas.Int.{ints}
@@ -42,11 +43,7 @@ spots_decide : (p q : Spot) → Decides (int_eq p.x q.x && int_eq p.y q.y) (p �
 spots_decide p q = Decides-like (int_eq p.x q.x && int_eq p.y q.y) (λ (ex, ey). spot_path ex ey) (λ e. (ap (λ s. s.x) e, ap (λ s. s.y) e)) (Decides-and (int_eq p.x q.x) (int_eq p.y q.y) (Decides-int_eq p.x q.x) (Decides-int_eq p.y q.y))
 
 pub are_same : (p q : Spot) → false ≡ not (int_eq p.x q.x && int_eq p.y q.y) → p ≡ q
-are_same p q e = (spots_decide p q).0 (by (int_eq p.x q.x && int_eq p.y q.y) e)
-  where
-    by : (b : Bool) → false ≡ not b → b ≡ true
-    by true e = refl
-    by false e = absurd cc
+are_same p q e = (spots_decide p q).0 (not-false (int_eq p.x q.x && int_eq p.y q.y) (sym e))
 
 pub are_other : (p q : Spot) → true ≡ not (int_eq p.x q.x && int_eq p.y q.y) → ¬ (p ≡ q)
 are_other p q e same = let t = (spots_decide p q).1 same in by (int_eq p.x q.x && int_eq p.y q.y) e t

@@ -4,17 +4,12 @@ use Rattle.std.specs.List.{AllZip}
 use Rattle.std.proofs.lemmas.List.{length-map, get_or-map, take_more}
 use Rattle.plan_spec.specs.Vector.{Vector, IsPoint, minus}
 use Rattle.plan_spec.specs.Polygon.{Inside, counterclockwise_triangle}
+use Rattle.plan_plane.proofs.Lists.{zip_push}
 use Rattle.plan_grid.specs.declared.spot.Spot.{Spot}
 use Rattle.plan_grid.specs.Spot.{spots_seen}
 use Rattle.plan_wire.specs.First.{obstacle_seen}
 use Rattle.plan_wire.specs.declared.document.FirstShape.{FirstShape}
 use Rattle.plan_top.specs.Scene.{IsSumOf}
-
-zip_push : {A B : Type 0} (R : A → B → Type 0) (xs : List A) (ys : List B) (x : A) (y : B) → AllZip R xs ys → R x y → AllZip R (xs ++ x ∷ []) (ys ++ y ∷ [])
-zip_push R [] [] x y h r = (r, tt)
-zip_push R [] (b ∷ ys) x y h r = absurd h
-zip_push R (a ∷ xs) [] x y h r = absurd h
-zip_push R (a ∷ xs) (b ∷ ys) x y h r = (h.0, zip_push R xs ys x y h.1 r)
 
 -- p is a point of the one triangle less one of the other
 abbrev pub InDifference : List Vector → List Vector → Vector → Type 0
