@@ -19,8 +19,9 @@ use std::alloc::{AllocError, Global};
 use std::thread::Threads;
 
 /// The uncovered pieces of the edges of the sums and of the sides of the room, by the number of the edge, then along
-/// it: for at most 512 sums, by 1 to 16 threads, which pass the gate before each edge. A room without width or without
-/// height has none. The list is the same for each number of threads.
+/// it: for at most 512 sums. A room without width or without height has none. At most `workers` threads, 1 to 16, share
+/// the edges, and each passes the gate before it does one; the list does not depend on them. Each edge is clipped at
+/// each sum whose box it meets, and what they cover of it is sorted.
 pub fn uncovered(
     rt: &(impl Threads + Sync),
     alloc: Global,

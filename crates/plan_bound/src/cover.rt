@@ -7,7 +7,7 @@ ghost use Rattle.plan_bound.specs.Cover.{AreBoxes, IsCoverOf};
 ghost use Rattle.plan_bound.specs.Edge.{AreCovered, Covered};
 
 use plan_convex::{Convex, Part, are_apart, edge_bounds};
-use plan_grid::{Frame, Spot};
+use plan_grid::{Frame, MOST_COORDINATE, Spot};
 use std::alloc::{AllocError, Global};
 
 /// What sums cover of an edge: open parts, one for each sum that covers a part of it, and whether they cover its ends.
@@ -26,8 +26,8 @@ pub fn cover_of(
     a: Spot,
     b: Spot,
 ) -> Result<Cover, AllocError>
-    requires a_bounded { IsWithin 2046 a }
-    requires b_bounded { IsWithin 2046 b }
+    requires a_bounded { IsWithin MOST_COORDINATE a }
+    requires b_bounded { IsWithin MOST_COORDINATE b }
     requires boxes { AreBoxes sums.now boxes.now }
     ensures parts { IfOk result (λ c. AreCovered (sums_seen sums.now) (spot_seen a) (spot_seen b) c.parts.items) }
     ensures first { IfOk result (λ c. Decides c.first (Covered (sums_seen sums.now) (spot_seen a))) }
@@ -49,8 +49,8 @@ pub fn cover_of(
 
 // What one sum covers of the edge. A sum whose box and that of the edge are apart covers nothing of it.
 fn covered(sum: &Convex, bounds: Frame, edge_box: Frame, a: Spot, b: Spot) -> Option<Part>
-    requires a_bounded { IsWithin 2046 a }
-    requires b_bounded { IsWithin 2046 b }
+    requires a_bounded { IsWithin MOST_COORDINATE a }
+    requires b_bounded { IsWithin MOST_COORDINATE b }
     requires bounds { All (Encloses bounds) sum.now }
     requires first { Encloses edge_box a }
     requires last { Encloses edge_box b }

@@ -15,7 +15,7 @@ use crate::gaps::gaps;
 use crate::in_room::part_in_room;
 use crate::sorted::sort_by_start;
 use plan_convex::{Convex, Parameter, Part, Piece, edge_of};
-use plan_grid::{Frame, Spot};
+use plan_grid::{Frame, MOST_COORDINATE, Spot};
 use std::alloc::{AllocError, Global};
 
 /// The pieces of the edge of that number, in their order along it.
@@ -27,8 +27,8 @@ pub fn pieces_of(
     edge: u32,
 ) -> Result<Vec<Piece>, AllocError>
     requires edge { edge < length (boundary (sums_seen sums.now) (frame_seen room)) }
-    requires low { IsWithin 2046 room.low }
-    requires high { IsWithin 2046 room.high }
+    requires low { IsWithin MOST_COORDINATE room.low }
+    requires high { IsWithin MOST_COORDINATE room.high }
     requires boxes { AreBoxes sums.now boxes.now }
     ensures { IfOk result (λ v. ArePiecesOf (sums_seen sums.now) (frame_seen room) edge v.items) }
 {
@@ -70,8 +70,8 @@ fn kept(
     first: bool,
     last: bool,
 ) -> Result<Vec<Piece>, AllocError>
-    requires a_bounded { IsWithin 2046 a }
-    requires b_bounded { IsWithin 2046 b }
+    requires a_bounded { IsWithin MOST_COORDINATE a }
+    requires b_bounded { IsWithin MOST_COORDINATE b }
     requires onward { Before (spot_seen a) (spot_seen b) }
     requires rising { All (λ g. AtMost g.from g.to) gaps.now }
     ensures { IfOk result (λ v. AllZip (IsPieceOf edge (spot_seen a) (spot_seen b)) (filter (stays first last) gaps.now) v.items) }
@@ -95,8 +95,8 @@ fn stays(gap: Part, first: bool, last: bool) -> bool
 
 // The gap as a piece.
 fn piece(edge: u32, a: Spot, b: Spot, gap: Part) -> Piece
-    requires a_bounded { IsWithin 2046 a }
-    requires b_bounded { IsWithin 2046 b }
+    requires a_bounded { IsWithin MOST_COORDINATE a }
+    requires b_bounded { IsWithin MOST_COORDINATE b }
     requires onward { Before (spot_seen a) (spot_seen b) }
     requires rising { AtMost gap.from gap.to }
     ensures { IsPieceOf edge (spot_seen a) (spot_seen b) gap result }

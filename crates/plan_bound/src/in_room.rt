@@ -5,14 +5,14 @@ ghost use Rattle.plan_bound.specs.Edge.{IsInRoom};
 
 use plan_convex::Part;
 use plan_exact::Whole;
-use plan_grid::{Frame, Spot};
+use plan_grid::{Frame, MOST_COORDINATE, Spot};
 
 /// The part of the edge from `a` to `b` in the closed room, which has width and height.
 pub fn part_in_room(room: Frame, a: Spot, b: Spot) -> Part
     requires wide { room.low.x <ℤ room.high.x }
     requires tall { room.low.y <ℤ room.high.y }
-    requires a_bounded { IsWithin 2046 a }
-    requires b_bounded { IsWithin 2046 b }
+    requires a_bounded { IsWithin MOST_COORDINATE a }
+    requires b_bounded { IsWithin MOST_COORDINATE b }
     ensures { IsInRoom (frame_seen room) (spot_seen a) (spot_seen b) result }
 {
     let right_of_left = Part::whole().where_not_negative(

@@ -7,8 +7,11 @@ mod cover;
 mod edge_pieces;
 mod gaps;
 mod in_room;
+pub mod laws;
 mod no_memory;
 mod sorted;
+#[cfg(test)]
+mod tests;
 
 pub use all_edges::uncovered;
 pub use no_memory::NoMemory;

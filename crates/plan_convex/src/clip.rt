@@ -10,7 +10,7 @@ use crate::convex::Convex;
 use crate::parameter::Parameter;
 use crate::part::Part;
 use plan_exact::Whole;
-use plan_grid::{Ratio, Spot, orientation, side};
+use plan_grid::{MOST_COORDINATE, Ratio, Spot, orientation, side};
 
 /// The open part between `n0 / d0` and `n1 / d1` along an edge that runs from 0 to 1, both fractions in lowest terms.
 #[derive(Clone, Copy, Debug, PartialEq, Eq)]
@@ -56,8 +56,8 @@ impl Convex {
     /// tells nothing; None exactly where no point of the edge, its ends included, is in the open interior. The
     /// coordinates of `a` and `b` are at most 2046 in absolute value.
     pub fn clip(&self, a: Spot, b: Spot) -> Option<Span>
-        requires a_bounded { IsWithin 2046 a }
-        requires b_bounded { IsWithin 2046 b }
+        requires a_bounded { IsWithin MOST_COORDINATE a }
+        requires b_bounded { IsWithin MOST_COORDINATE b }
         ensures covered { IfSome result (IsSpanOf (spot_seen a) (spot_seen b) (spots_seen self.now)) }
         ensures none { IsNone result ↔ IsOutside (spot_seen a) (spot_seen b) (spots_seen self.now) }
         ensures proper { IfSome result IsProper }
@@ -85,8 +85,8 @@ impl Convex {
     // The part of the edge from `a` to `b` that the open interior covers, by its ends; None where it covers no point
     // other than the edge's own ends.
     fn covered(&self, a: Spot, b: Spot) -> Option<Part>
-        requires a_bounded { IsWithin 2046 a }
-        requires b_bounded { IsWithin 2046 b }
+        requires a_bounded { IsWithin MOST_COORDINATE a }
+        requires b_bounded { IsWithin MOST_COORDINATE b }
         ensures { IsCovered (spot_seen a) (spot_seen b) (spots_seen self.now) result }
     {
         let spots = self.spots();
@@ -122,9 +122,9 @@ fn lowest(p: Parameter) -> (u32, u32)
 
 // The cross product of `b - a` and `c - a`, to compute with.
 fn distance(a: Spot, b: Spot, c: Spot) -> Whole
-    requires a_bounded { IsWithin 2046 a }
-    requires b_bounded { IsWithin 2046 b }
-    requires c_bounded { IsWithin 2046 c }
+    requires a_bounded { IsWithin MOST_COORDINATE a }
+    requires b_bounded { IsWithin MOST_COORDINATE b }
+    requires c_bounded { IsWithin MOST_COORDINATE c }
     ensures { result ≡ turn (spot_seen a) (spot_seen b) (spot_seen c) }
 {
     Whole::from(side(a, b, c) as i64)
