@@ -1,9 +1,12 @@
 -- Spots by number, as the code reads them, and as vectors.
-use Rattle.std.proofs.Common.{◌≡◌, ℕ, pos, ◌+◌, ◌<◌, ◌%◌, List, length, get_or, Some, ap, ◌∙◌, arith}
+use Rattle.std.proofs.Common.{◌≡◌, ℕ, pos, ◌+◌, ◌<◌, ◌%◌, List, All, length, get_or, Some, ap, ◌∙◌, arith}
 use Rattle.std.specs.Prelude.{slice_get}
+use Rattle.std.proofs.lemmas.Int.{ints}
 use Rattle.std.proofs.lemmas.List.{length-map}
+use Rattle.std.proofs.lemmas.List.Elements.{All-map}
 use Rattle.std.proofs.lemmas.Option.{slice_get-get_or}
 use Rattle.std.proofs.Math.ListN.{get_or-map}
+use Rattle.plan_spec.specs.Vector.{IsPoint}
 use Rattle.plan_spec.specs.Segment.{Segment, segment}
 use Rattle.plan_spec.specs.Polygon.{edges}
 use Rattle.plan_grid.specs.declared.spot.Spot.{Spot}
@@ -23,6 +26,12 @@ numbered spots i = edge_seen (vertex spots i) (vertex spots ((i + 1) % length sp
 
 pub count_seen : (spots : List Spot) → length (spots_seen spots) ≡ length spots
 count_seen spots = length-map spots spot_seen
+
+pub count_below : (spots : List Spot) (i : ℕ) → i < length spots → i < length (spots_seen spots)
+count_below spots i within = omega (arith, within, count_seen spots)
+
+pub points_seen : (spots : List Spot) → All IsPoint (spots_seen spots)
+points_seen spots = All-map IsPoint spot_seen spots (λ k d within. omega (arith, ints))
 
 pub count_edges : (spots : List Spot) → length (edges (spots_seen spots)) ≡ length spots
 count_edges spots = length_edges (spots_seen spots) ∙ count_seen spots

@@ -8,18 +8,18 @@ use Rattle.plan_exact.specs.Expr.{◌⊕◌, ◌⊗◌}
 use Rattle.plan_exact.specs.Formal.{A, B, C, D}
 use Rattle.plan_exact.specs.Formal as F
 use Rattle.plan_exact.specs.Sign.{Sign, is_negative, is_zero, is_positive}
-use Rattle.plan_exact.specs.Vectors.{Vector, env}
+use Rattle.plan_exact.specs.Vectors.{env}
 use Rattle.plan_exact.proofs.Certificates.{eq_from}
 use Rattle.plan_exact.proofs.Laws.{linear}
 use Rattle.plan_exact.proofs.Ring.{ring}
 use Rattle.plan_exact.proofs.Signs.{le_or_lt, zeros, zero_of_mul, mul_pos, mul_nonneg_nonpos, le_of_lt, mul_nonpos, mul_neg_pos, sign_of, mul_nonpos_nonneg}
-use Rattle.plan_exact.proofs.Tests.{lt_true, lt_false}
+use Rattle.plan_exact.proofs.Tests.{lt_true, lt_false, lt_from_true, le_from_false}
 use Rattle.plan_exact.proofs.Vectors.{det_swapped, det_turned}
 use Rattle.plan_spec.specs.Parity.{over, parity, xor}
 use Rattle.plan_spec.specs.Polygon.{edges, Inside}
 use Rattle.plan_spec.specs.Segment.{segment, Segment, On}
 use Rattle.plan_spec.specs.SimplePolygon.{InPolygon}
-use Rattle.plan_spec.specs.Vector.{LeX, LtX, turn, IsPoint}
+use Rattle.plan_spec.specs.Vector.{Vector, LeX, LtX, turn, IsPoint}
 use Rattle.plan_plane.proofs.Lists.{any_here, any_there}
 use Rattle.plan_plane.proofs.Polygon.Holding.{inside_between}
 use Rattle.plan_plane.proofs.Polygon.Sides.{first_inside, second_inside, third_inside, on_first, on_last, on_third}
@@ -34,9 +34,6 @@ use Rattle.plan_cross.proofs.ParityLaw.Tests.{over_right_of_a, over_past_both, o
 abbrev is_right : Vector → Vector → Bool
 is_right z a = int_lt (z.x *ℤ a.w) (a.x *ℤ z.w)
 
-le : {x y : ℤ} → x <ℤ y → x ≤ℤ y
-le h = omega (arith, linear)
-
 over_pos : (a b z : Vector) → pos 0 <ℤ turn a b z → over (segment a b) z ≡ (is_right z a && not (is_right z b))
 over_pos a b z h = by (le_or_lt (a.x *ℤ z.w) (z.x *ℤ a.w)) (le_or_lt (b.x *ℤ z.w) (z.x *ℤ b.w))
   where
@@ -48,7 +45,7 @@ over_pos a b z h = by (le_or_lt (a.x *ℤ z.w) (z.x *ℤ a.w)) (le_or_lt (b.x *�
 
     by : LeX a z ⊎ LtX z a → LeX b z ⊎ LtX z b → over (segment a b) z ≡ (is_right z a && not (is_right z b))
     by (inl i) (inl j) = shown false false (lt_false i) (lt_false j) (over (segment a b) z) (over_past_both a b z i j)
-    by (inl i) (inr j) = shown false true (lt_false i) (lt_true j) (over (segment a b) z) (over_right_of_a a b z i j ∙ lt_false (le h))
+    by (inl i) (inr j) = shown false true (lt_false i) (lt_true j) (over (segment a b) z) (over_right_of_a a b z i j ∙ lt_false (le_of_lt h))
     by (inr i) (inl j) = shown true false (lt_true i) (lt_false j) (over (segment a b) z) (over_reversed a b z ∙ over_right_of_a b a z j i ∙ lt_true back)
     by (inr i) (inr j) = shown true true (lt_true i) (lt_true j) (over (segment a b) z) (over_before_both a b z i j)
 
@@ -86,17 +83,11 @@ weights a b c z = ring (env [] (a ∷ b ∷ c ∷ z ∷ [])) (F.det B C D ⊗ A.
 flat : (a b c z : Vector) → IsPoint z → right z a ≡ pos 0 → right z b ≡ pos 0 → right z c ≡ pos 0 → turn a b c ≡ pos 0
 flat a b c z hz ra rb rc = eq_from (env [] (a ∷ b ∷ c ∷ z ∷ [])) D.w ((F.cross B C).x ⊗ formal_right D A ⊕ (F.cross C A).x ⊗ formal_right D B ⊕ (F.cross A B).x ⊗ formal_right D C) (F.det A B C) F.zero tt hz (search zeros)
 
-lt_in : (x y : ℤ) → int_lt x y ≡ true → x <ℤ y
-lt_in x y e = omega (arith, ints)
-
-le_in : (x y : ℤ) → int_lt x y ≡ false → y ≤ℤ x
-le_in x y e = omega (arith, ints)
-
 is_pos : (z a : Vector) → is_right z a ≡ true → pos 0 <ℤ right z a
-is_pos z a e = let h = lt_in (z.x *ℤ a.w) (a.x *ℤ z.w) e in omega (arith, linear)
+is_pos z a e = let h = lt_from_true (z.x *ℤ a.w) (a.x *ℤ z.w) e in omega (arith, linear)
 
 is_nonpos : (z a : Vector) → is_right z a ≡ false → right z a ≤ℤ pos 0
-is_nonpos z a e = let h = le_in (z.x *ℤ a.w) (a.x *ℤ z.w) e in omega (arith, linear)
+is_nonpos z a e = let h = le_from_false (z.x *ℤ a.w) (a.x *ℤ z.w) e in omega (arith, linear)
 
 -- ---- strictly inside: odd
 
@@ -137,7 +128,7 @@ even_pos_pos a b c z tc ta tb =
   where
     by : (x y w : Bool) → is_right z a ≡ x → is_right z b ≡ y → is_right z c ≡ w → xor (not x && y) (xor (y && not w) (xor (w && not x) false)) ≡ false
     by true true true e f g = refl
-    by true true false e f g = absurd (omega (arith, linear, moments a b c z, mul_pos ta (is_pos z a e), mul_pos tb (is_pos z b f), mul_nonpos (le tc) (is_nonpos z c g)))
+    by true true false e f g = absurd (omega (arith, linear, moments a b c z, mul_pos ta (is_pos z a e), mul_pos tb (is_pos z b f), mul_nonpos (le_of_lt tc) (is_nonpos z c g)))
     by true false true e f g = refl
     by true false false e f g = refl
     by false true true e f g = refl
@@ -156,7 +147,7 @@ even_zero_pos a b c z tc ta tb =
     by true false true e f g = refl
     by true false false e f g = refl
     by false true true e f g = refl
-    by false true false e f g = absurd (omega (arith, linear, moments a b c z, zero_left (right z a) ta, mul_pos tb (is_pos z b f), mul_nonpos (le tc) (is_nonpos z c g)))
+    by false true false e f g = absurd (omega (arith, linear, moments a b c z, zero_left (right z a) ta, mul_pos tb (is_pos z b f), mul_nonpos (le_of_lt tc) (is_nonpos z c g)))
     by false false true e f g = absurd (omega (arith, linear, moments a b c z, zero_left (right z a) ta, mul_nonneg_nonpos (le_of_lt tb) (is_nonpos z b f), mul_neg_pos tc (is_pos z c g)))
     by false false false e f g = refl
 
@@ -167,7 +158,7 @@ even_pos_zero a b c z tc ta tb =
   where
     by : (x y w : Bool) → is_right z a ≡ x → is_right z b ≡ y → is_right z c ≡ w → xor (not x && y) (xor (y && not w) (xor false false)) ≡ false
     by true true true e f g = refl
-    by true true false e f g = absurd (omega (arith, linear, moments a b c z, mul_pos ta (is_pos z a e), zero_left (right z b) tb, mul_nonpos (le tc) (is_nonpos z c g)))
+    by true true false e f g = absurd (omega (arith, linear, moments a b c z, mul_pos ta (is_pos z a e), zero_left (right z b) tb, mul_nonpos (le_of_lt tc) (is_nonpos z c g)))
     by true false true e f g = refl
     by true false false e f g = refl
     by false true true e f g = absurd (omega (arith, linear, moments a b c z, mul_nonneg_nonpos (le_of_lt ta) (is_nonpos z a e), zero_left (right z b) tb, mul_neg_pos tc (is_pos z c g)))
@@ -186,7 +177,7 @@ even_neg_pos a b c z tc ta tb =
     by true false true e f g = absurd (omega (arith, linear, moments a b c z, mul_neg_pos ta (is_pos z a e), mul_nonneg_nonpos (le_of_lt tb) (is_nonpos z b f), mul_neg_pos tc (is_pos z c g)))
     by true false false e f g = refl
     by false true true e f g = refl
-    by false true false e f g = absurd (omega (arith, linear, moments a b c z, mul_nonpos (le ta) (is_nonpos z a e), mul_pos tb (is_pos z b f), mul_nonpos (le tc) (is_nonpos z c g)))
+    by false true false e f g = absurd (omega (arith, linear, moments a b c z, mul_nonpos (le_of_lt ta) (is_nonpos z a e), mul_pos tb (is_pos z b f), mul_nonpos (le_of_lt tc) (is_nonpos z c g)))
     by false false true e f g = refl
     by false false false e f g = refl
 
@@ -199,7 +190,7 @@ even_pos_neg a b c z tc ta tb =
     by true true true e f g = refl
     by true true false e f g = refl
     by true false true e f g = refl
-    by true false false e f g = absurd (omega (arith, linear, moments a b c z, mul_pos ta (is_pos z a e), mul_nonpos (le tb) (is_nonpos z b f), mul_nonpos (le tc) (is_nonpos z c g)))
+    by true false false e f g = absurd (omega (arith, linear, moments a b c z, mul_pos ta (is_pos z a e), mul_nonpos (le_of_lt tb) (is_nonpos z b f), mul_nonpos (le_of_lt tc) (is_nonpos z c g)))
     by false true true e f g = absurd (omega (arith, linear, moments a b c z, mul_nonneg_nonpos (le_of_lt ta) (is_nonpos z a e), mul_neg_pos tb (is_pos z b f), mul_neg_pos tc (is_pos z c g)))
     by false true false e f g = refl
     by false false true e f g = refl
@@ -218,9 +209,9 @@ even_right a b c z ha hb hc hz left tc = by (sign_of (turn b c z)) (sign_of (tur
     by (is_negative ta) (is_positive tb) = even_neg_pos a b c z tc ta tb
     by (is_positive ta) (is_negative tb) = even_pos_neg a b c z tc ta tb
     by (is_zero ta) (is_zero tb) = absurd (none (omega (arith, linear)) (omega (arith, linear)))
-    by (is_zero ta) (is_negative tb) = absurd (none (omega (arith, linear)) (le tb))
-    by (is_negative ta) (is_zero tb) = absurd (none (le ta) (omega (arith, linear)))
-    by (is_negative ta) (is_negative tb) = absurd (none (le ta) (le tb))
+    by (is_zero ta) (is_negative tb) = absurd (none (omega (arith, linear)) (le_of_lt tb))
+    by (is_negative ta) (is_zero tb) = absurd (none (le_of_lt ta) (omega (arith, linear)))
+    by (is_negative ta) (is_negative tb) = absurd (none (le_of_lt ta) (le_of_lt tb))
 
 -- ---- the three sides in turn
 xor_turned : (p q r : Bool) → xor p (xor q (xor r false)) ≡ xor q (xor r (xor p false))

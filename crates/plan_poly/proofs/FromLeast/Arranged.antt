@@ -18,7 +18,7 @@ use Rattle.plan_poly.proofs.EvenOdd.Orders.{reverse_seen, same_points}
 use Rattle.plan_poly.proofs.FromLeast.Kept.{Left, as_it_is, the_other_way, from_least_is}
 use Rattle.plan_poly.proofs.Loop.Loop.{Loop}
 use Rattle.plan_poly.proofs.Loop.Simple.{simple_loop, loop_simple}
-use Rattle.plan_poly.proofs.Spots.{vertex, count_seen}
+use Rattle.plan_poly.proofs.Spots.{vertex, count_seen, points_seen}
 
 -- ---- the other way round, from the same first spot
 abbrev pub flip : List Spot → List Spot
@@ -80,10 +80,6 @@ turn_seen a b c rest =
     (λ i. turn (spot_seen (vertex (a ∷ b ∷ c ∷ rest) (n i))) (spot_seen a) (spot_seen b)) ∙ ap (λ u. turn u (spot_seen a) (spot_seen b)) (last_seen c rest)
 
 -- ---- as a loop
-points_seen : (s : List Spot) → All IsPoint (spots_seen s)
-points_seen [] = All-nil IsPoint
-points_seen (a ∷ s) = All-cons IsPoint (spot_seen a) (spots_seen s) (omega (arith, ints)) (points_seen s)
-
 pub loop_of : {given : List Spot} → IsSimpleList given → Loop (spots_seen given)
 loop_of {given} h = simple_loop (spots_seen given) (omega (arith, h.at_least_three, count_seen given)) (points_seen given) h.simple
 

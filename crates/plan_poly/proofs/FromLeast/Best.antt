@@ -9,9 +9,6 @@ use Rattle.plan_spec.specs.Vector.{Vector, IsPoint}
 use Rattle.plan_plane.proofs.Lists.{all_right}
 
 -- ---- an order of points by a test
-pub test_off : (x y : ℤ) → y ≤ℤ x → int_lt x y ≡ false
-test_off x y h = lt_false h
-
 pub record IsOrder (better : Vector → Vector → Bool) : Type 0 where
   pub one_way : (x y : Vector) → IsPoint x → IsPoint y → better x y ≡ true → better y x ≡ false
   pub through : (x y z : Vector) → IsPoint x → IsPoint y → IsPoint z → better y x ≡ false → better x z ≡ false → better y z ≡ false

@@ -7,7 +7,7 @@ use Rattle.std.specs.Ordering.{int_eq}
 use Rattle.std.specs.Prelude.{int_lt}
 use Rattle.plan_exact.specs.Sign.{Order, is_less, is_equal, is_greater}
 use Rattle.plan_exact.proofs.Laws.{linear}
-use Rattle.plan_exact.proofs.Signs.{order_of}
+use Rattle.plan_exact.proofs.Signs.{order_of, le_of_eq}
 use Rattle.plan_exact.proofs.Tests.{lt_true, lt_false}
 use Rattle.plan_spec.specs.Triangulation.{comes_before, from_least, Parted, part_at_best, every, from_part, earlier}
 use Rattle.plan_spec.specs.Vector.{Vector, SameX, LtX, LeY, Before, LeX, IsPoint, Same}
@@ -15,7 +15,7 @@ use Rattle.plan_plane.proofs.Lists.{all_left, all_right}
 use Rattle.plan_plane.proofs.Pairs.{Pairs, pairs_right, pairs_across}
 use Rattle.plan_plane.proofs.Segment.Between.{flip}
 use Rattle.plan_plane.proofs.Segment.ByX.{leX_trans, ltX_leX, leX_ltX}
-use Rattle.plan_poly.proofs.FromLeast.Best.{test_off, IsOrder, IsBest, AtMost, best}
+use Rattle.plan_poly.proofs.FromLeast.Best.{IsOrder, IsBest, AtMost, best}
 use Rattle.plan_poly.proofs.Loop.Loop.{Differ, differ_swapped}
 
 -- ---- the order by x, then by y
@@ -38,17 +38,20 @@ pub before_true : (p q : Vector) → Before p q → comes_before p q ≡ true
 before_true p q (inl h) = ap (λ t. t || (int_eq (p.x *ℤ q.w) (q.x *ℤ p.w) && int_lt (p.y *ℤ q.w) (q.y *ℤ p.w))) (lt_true h)
 before_true p q (inr h) =
     let f = h.0 in
-    let e = test_off (p.x *ℤ q.w) (q.x *ℤ p.w) (omega (arith, linear)) in
+    let right : (q.x *ℤ p.w) ≤ℤ (p.x *ℤ q.w) = omega (arith, linear) in
+    let e = lt_false right in
     ap₂ (λ s t. s || t) e (ap₂ (λ s t. s && t) ((Decides-int_eq (p.x *ℤ q.w) (q.x *ℤ p.w)).1 h.0) (lt_true h.1))
 
 after_false : (p q : Vector) → NotAfter q p → comes_before p q ≡ false
 after_false p q (inl h) =
-    let e = test_off (p.x *ℤ q.w) (q.x *ℤ p.w) (omega (arith, linear)) in
+    let right : (q.x *ℤ p.w) ≤ℤ (p.x *ℤ q.w) = omega (arith, linear) in
+    let e = lt_false right in
     let f : int_eq (p.x *ℤ q.w) (q.x *ℤ p.w) ≡ false = eq_apart (p.x *ℤ q.w) (q.x *ℤ p.w) (λ g. omega (arith, linear)) in
     ap₂ (λ s t. s || t) e (ap (λ s. s && int_lt (p.y *ℤ q.w) (q.y *ℤ p.w)) f)
 after_false p q (inr h) =
     let f = h.0 in
-    let e = test_off (p.x *ℤ q.w) (q.x *ℤ p.w) (omega (arith, linear)) in
+    let right : (q.x *ℤ p.w) ≤ℤ (p.x *ℤ q.w) = omega (arith, linear) in
+    let e = lt_false right in
     ap₂ (λ s t. s || t) e (ap (λ t. int_eq (p.x *ℤ q.w) (q.x *ℤ p.w) && t) (lt_false h.1) ∙ and_false (int_eq (p.x *ℤ q.w) (q.x *ℤ p.w)))
 
 which : (p q : Vector) → Before p q ⊎ NotAfter q p
@@ -86,16 +89,13 @@ not_after : (p q : Vector) → Before p q → NotAfter p q
 not_after p q (inl h) = inl h
 not_after p q (inr h) = let k = h.1 in inr (h.0, omega (arith, linear))
 
-same_le : (p q : Vector) → SameX p q → LeX p q
-same_le p q e = omega (arith, linear)
-
 not_after_trans : (x y z : Vector) → IsPoint x → IsPoint y → IsPoint z → NotAfter x y → NotAfter y z → NotAfter x z
 not_after_trans x y z hx hy hz (inl h) (inl k) = inl (ltX_leX x y z hx hy hz h (omega (arith, linear)))
-not_after_trans x y z hx hy hz (inl h) (inr k) = inl (ltX_leX x y z hx hy hz h (same_le y z k.0))
-not_after_trans x y z hx hy hz (inr h) (inl k) = inl (leX_ltX x y z hx hy hz (same_le x y h.0) k)
+not_after_trans x y z hx hy hz (inl h) (inr k) = inl (ltX_leX x y z hx hy hz h (le_of_eq k.0))
+not_after_trans x y z hx hy hz (inr h) (inl k) = inl (leX_ltX x y z hx hy hz (le_of_eq h.0) k)
 not_after_trans x y z hx hy hz (inr h) (inr k) =
-    let i = leX_trans x y z hx hy hz (same_le x y h.0) (same_le y z k.0) in
-    let j = leX_trans z y x hz hy hx (same_le z y (sym k.0)) (same_le y x (sym h.0)) in
+    let i = leX_trans x y z hx hy hz (le_of_eq h.0) (le_of_eq k.0) in
+    let j = leX_trans z y x hz hy hx (le_of_eq (sym k.0)) (le_of_eq (sym h.0)) in
     inr (omega (arith, linear), leX_trans (flip x) (flip y) (flip z) hx hy hz h.1 k.1)
 
 pub by_place : IsOrder comes_before

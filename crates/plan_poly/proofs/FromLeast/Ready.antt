@@ -1,6 +1,5 @@
 -- A loop from its least vertex on is a loop that holds the same points and has the same edges.
 use Rattle.std.proofs.Common.{List, ◌+◌, [], ◌∷◌, ◌++◌, append-nil, sym, subst, ◌≡◌, refl, ap, length, All, ◌≤◌, length-append, ◌∙◌, arith}
-use Rattle.plan_exact.specs.Vectors.{Vector}
 use Rattle.plan_spec.specs.SimplePolygon.{last}
 use Rattle.plan_spec.specs.Triangulation.{but_last, from_least}
 use Rattle.plan_spec.specs.Vector.{Vector, Before}

@@ -1,7 +1,6 @@
 -- A loop that is read the other way round is a loop, and turns the other way at its least vertex.
 use Rattle.std.proofs.Common.{List, [], ◌∷◌, get_or, sym, subst, ◌≡◌, ◌++◌, ap, pos, ◌<ℤ◌, All, arith}
 use Rattle.std.proofs.lemmas.List.Elements.{All-nil, All-cons, All-head, All-tail}
-use Rattle.plan_exact.specs.Vectors.{Vector}
 use Rattle.plan_exact.proofs.Laws.{linear}
 use Rattle.plan_exact.proofs.Vectors.{det_turned, det_swapped}
 use Rattle.plan_spec.specs.Polygon.{edges}

@@ -31,7 +31,7 @@ differ_swapped a b n e = n (Same-swapped b a e)
 pub meet_swapped : (s t : Segment) → MeetRight s t → MeetRight t s
 meet_swapped s t m z hz a b = let k = m z hz b a in (k.1, k.0)
 
-end_reversed : (a b z : Vector) → IsEnd (segment a b) z → IsEnd (segment b a) z
+pub end_reversed : (a b z : Vector) → IsEnd (segment a b) z → IsEnd (segment b a) z
 end_reversed a b z (inl e) = inr e
 end_reversed a b z (inr e) = inl e
 

@@ -4,13 +4,13 @@ use Rattle.std.proofs.lemmas.List.Elements.{All-head, All-tail}
 use Rattle.plan_exact.specs.Expr.{neg}
 use Rattle.plan_exact.specs.Formal.{A, B}
 use Rattle.plan_exact.specs.Formal as F
-use Rattle.plan_exact.specs.Vectors.{Vector, dot, env}
+use Rattle.plan_exact.specs.Vectors.{dot, env}
 use Rattle.plan_exact.proofs.Laws.{linear}
 use Rattle.plan_exact.proofs.Ring.{ring}
 use Rattle.plan_exact.proofs.Vectors.{det_swapped_right}
 use Rattle.plan_spec.specs.Polygon.{edges}
 use Rattle.plan_spec.specs.Segment.{segment}
-use Rattle.plan_spec.specs.Vector.{IsPoint, Same, Before, turn}
+use Rattle.plan_spec.specs.Vector.{Vector, IsPoint, Same, Before, turn}
 use Rattle.plan_plane.proofs.Lists.{all_right}
 use Rattle.plan_plane.proofs.Polygon.Corner.{polygon, corner_edges}
 use Rattle.plan_plane.proofs.Segment.Between.{Between, LtX_after, flip, flipped, on, swapped}

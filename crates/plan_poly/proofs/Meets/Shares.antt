@@ -4,7 +4,7 @@ use Rattle.plan_exact.specs.Expr.{◌⊖◌, ◌⊗◌}
 use Rattle.plan_exact.specs.Formal.{A, B, C, D}
 use Rattle.plan_exact.specs.Formal as F
 use Rattle.plan_exact.specs.Sign.{Sign, is_negative, is_zero, is_positive, is_less, is_equal, is_greater}
-use Rattle.plan_exact.specs.Vectors.{Vector, dot, env, opposite, cross}
+use Rattle.plan_exact.specs.Vectors.{dot, env, opposite, cross}
 use Rattle.plan_exact.proofs.Laws.{linear}
 use Rattle.plan_exact.proofs.Ring.{ring}
 use Rattle.plan_exact.proofs.Signs.{mul_pos, mul_nonneg_nonpos, mul_of_zero, le_or_lt, le_of_lt, mul_pos_neg, sign_of, mul_neg, zero_of_mul, pos_of_mul, order_of}

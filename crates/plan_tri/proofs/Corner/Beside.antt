@@ -3,14 +3,14 @@ use Rattle.std.proofs.Common.{◌≡◌, false, List, [], ◌∷◌, All, refl, 
 use Rattle.std.proofs.lemmas.List.Elements.{All-head, All-tail}
 use Rattle.plan_exact.specs.Expr.{con, ◌⊕◌, ◌⊖◌, ◌⊗◌, var}
 use Rattle.plan_exact.specs.Formal.{A, B, J}
-use Rattle.plan_exact.specs.Vectors.{Vector, env, dot}
+use Rattle.plan_exact.specs.Vectors.{env, dot}
 use Rattle.plan_exact.proofs.Certificates.{lt_from}
 use Rattle.plan_exact.proofs.Laws.{linear}
 use Rattle.plan_exact.proofs.Signs.{signs, mul_nonneg, le_of_lt, square_nonneg, square_pos, mul_zero}
 use Rattle.plan_spec.specs.Chain.{IsClosed}
 use Rattle.plan_spec.specs.Parity.{parity, xor}
 use Rattle.plan_spec.specs.Segment.{Segment, segment, Common, HasPoints, On}
-use Rattle.plan_spec.specs.Vector.{LtX, IsPoint, LeX}
+use Rattle.plan_spec.specs.Vector.{Vector, LtX, IsPoint, LeX}
 use Rattle.plan_plane.proofs.Segment.Apart.{From, beside_one, misses_by, from_chain, from_one, from_near, off_by}
 use Rattle.plan_plane.proofs.Near.{step, step_point, step_value, along_zero}
 use Rattle.plan_plane.proofs.Segment.Between.{between}

@@ -1,11 +1,11 @@
 -- The edges of a polygon that do not begin or end at its least vertex have no point in the corner: such an edge would have to come in through one of the two edges at v.
-use Rattle.std.proofs.Common.{ℤ, pos, ◌≤ℤ◌, ◌<ℤ◌, List, All, ◌≡◌, ◌⊎◌, inl, inr, arith, [], ◌∷◌, ◌++◌, get_or}
+use Rattle.std.proofs.Common.{ℤ, pos, ◌≤ℤ◌, ◌<ℤ◌, List, All, ◌≡◌, ◌⊎◌, inl, inr, arith, [], ◌∷◌, ◌++◌, get_or, sym}
 use Rattle.std.proofs.lemmas.List.Elements.{All-nil, All-cons, All-append}
-use Rattle.plan_exact.specs.Vectors.{Vector, dot, cross}
+use Rattle.plan_exact.specs.Vectors.{dot, cross}
 use Rattle.plan_exact.proofs.Laws.{linear}
-use Rattle.plan_exact.proofs.Signs.{le_or_lt, le_of_lt}
+use Rattle.plan_exact.proofs.Signs.{le_or_lt, le_of_lt, le_of_eq}
 use Rattle.plan_spec.specs.Segment.{segment}
-use Rattle.plan_spec.specs.Vector.{IsPoint, turn, Same}
+use Rattle.plan_spec.specs.Vector.{Vector, IsPoint, turn, Same}
 use Rattle.plan_plane.proofs.Segment.Apart.{off_by}
 use Rattle.plan_plane.proofs.Segment.SameSign.{pos_same, nonneg_same}
 use Rattle.plan_plane.proofs.Segment.Entry.{entry}
@@ -48,19 +48,16 @@ entering {v} {w} {u} {g} k a b e z oa ob oe first last hz i ge part = by (le_or_
     at_end c hc j (inl same) = oa.1 (corner_same hc oa.0 same j)
     at_end c hc j (inr same) = ob.1 (corner_same hc ob.0 same j)
 
-    nonneg : {n : ℤ} → n ≡ pos 0 → pos 0 ≤ℤ n
-    nonneg x = omega (arith, linear)
-
     at : (c : Vector) → IsPoint c → Between e z c → ((turn v w c ≡ pos 0) × (pos 0 ≤ℤ turn u v c)) ⊎ ((turn u v c ≡ pos 0) × (pos 0 ≤ℤ turn v w c)) → ⊥
     at c hc m (inl s) =
         let gc = pos_at hc m g ge i.within in
         let fc = le_of_lt (k.ahead c hc gc) in
-        let j : InCorner v w u g c = record { after = nonneg s.0; before = s.1; within = gc } in
+        let j : InCorner v w u g c = record { after = le_of_eq (sym s.0); before = s.1; within = gc } in
         at_end c hc j (first c hc (on (on_first v w u c k.corner.turns_left s.0 fc s.1)) (on (part c m))).1
     at c hc m (inr s) =
         let gc = pos_at hc m g ge i.within in
         let fc = le_of_lt (k.ahead c hc gc) in
-        let j : InCorner v w u g c = record { after = s.1; before = nonneg s.0; within = gc } in
+        let j : InCorner v w u g c = record { after = s.1; before = le_of_eq (sym s.0); within = gc } in
         at_end c hc j (last c hc (on (on_last v w u c k.corner.turns_left s.0 fc s.1)) (on (part c m))).1
 
     go : (turn v w e <ℤ pos 0) ⊎ (turn u v e <ℤ pos 0) → ⊥

@@ -1,9 +1,9 @@
 -- The corner of a polygon at its least vertex v, between the next vertex w and the last one u, as far as the covector g is positive: it is convex, and has v.
-use Rattle.std.proofs.Common.{◌≡◌, ℤ, pos, ◌≤ℤ◌, arith}
+use Rattle.std.proofs.Common.{◌≡◌, ℤ, pos, ◌≤ℤ◌, arith, sym}
 use Rattle.std.specs.Prelude.{pos, ◌≤ℤ◌, ◌<ℤ◌, ◌⊎◌}
-use Rattle.plan_exact.specs.Vectors.{dot, Vector, cross}
+use Rattle.plan_exact.specs.Vectors.{dot, cross}
 use Rattle.plan_exact.proofs.Laws.{linear}
-use Rattle.plan_exact.proofs.Signs.{mul_nonneg}
+use Rattle.plan_exact.proofs.Signs.{mul_nonneg, le_of_eq}
 use Rattle.plan_exact.proofs.Vectors.{cross_on_left, cross_on_right}
 use Rattle.plan_spec.specs.Segment.{Segment, On}
 use Rattle.plan_spec.specs.Vector.{Vector, turn, IsPoint, LeX}
@@ -47,11 +47,8 @@ corner_between {v} {w} {u} {g} hz b hp hq = record {
   within = pos_at hz b g hp.within hq.within;
 }
 
-nonneg : {n : ℤ} → n ≡ pos 0 → pos 0 ≤ℤ n
-nonneg e = omega (arith, linear)
-
 pub v_in_corner : {v w u g : Vector} → Corner v w u g → InCorner v w u g v
-v_in_corner {v} {w} {u} k = record { after = nonneg (cross_on_left v w); before = nonneg (cross_on_right u v); within = k.at_v }
+v_in_corner {v} {w} {u} k = record { after = le_of_eq (sym (cross_on_left v w)); before = le_of_eq (sym (cross_on_right u v)); within = k.at_v }
 
 pub towards_v : {v w u g z : Vector} → Corner v w u g → (n : ℤ) → pos 1 ≤ℤ n → InCorner v w u g z → InCorner v w u g (step n v z)
 towards_v {v} {w} {u} {g} {z} k n hn h =

@@ -9,7 +9,7 @@ use Rattle.plan_exact.specs.Vectors.{env, cross, dot}
 use Rattle.plan_exact.proofs.Certificates.{eq_from, lt_from}
 use Rattle.plan_exact.proofs.Laws.{linear, mul_comm}
 use Rattle.plan_exact.proofs.Ring.{ring}
-use Rattle.plan_exact.proofs.Signs.{order_of, zeros, mul_pos, mul_nonneg, le_of_lt, pos_of_mul}
+use Rattle.plan_exact.proofs.Signs.{order_of, zeros, mul_pos, mul_nonneg, le_of_lt, pos_of_mul, pos_of_nonneg}
 use Rattle.plan_exact.proofs.Vectors.{cross_on_left, cross_on_right}
 use Rattle.plan_spec.specs.Route.{segments_from}
 use Rattle.plan_spec.specs.Segment.{segment}
@@ -83,16 +83,8 @@ x_point {v} {w} {before} {x} {after} {u} k = All-head IsPoint x after (all_right
 pub ends_x : {v w : Vector} {before : List Vector} {x : Vector} {after : List Vector} {u : Vector} → AtCut v w before x after u → All (EndWhereOn x) (chain v (w ∷ before) x ++ chain x (second after u) v)
 ends_x {v} {w} {before} {x} {after} {u} k = subst (All (EndWhereOn x)) (edges_cut v (w ∷ before) x (second after u)) (vertex_ends v (w ∷ before) x (second after u) (loop_of k))
 
-pub pos_from : (n : ℤ) → pos 0 ≤ℤ n → ¬ (n ≡ pos 0) → pos 0 <ℤ n
-pos_from n h apart = by (order_of (pos 0) n)
-  where
-    by : Order (pos 0) n → pos 0 <ℤ n
-    by (is_less k) = k
-    by (is_equal e) = absurd (apart (sym e))
-    by (is_greater k) = absurd (omega (arith, linear))
-
 pub after_x : {v w : Vector} {before : List Vector} {x : Vector} {after : List Vector} {u : Vector} → AtCut v w before x after u → pos 0 <ℤ turn v w x
-after_x {v} {w} {before} {x} {after} {u} k = pos_from (turn v w x) k.inside.after off
+after_x {v} {w} {before} {x} {after} {u} k = pos_of_nonneg k.inside.after off
   where
     off : ¬ (turn v w x ≡ pos 0)
     off e =
@@ -104,7 +96,7 @@ after_x {v} {w} {before} {x} {after} {u} k = pos_from (turn v w x) k.inside.afte
         ]
 
 pub before_x : {v w : Vector} {before : List Vector} {x : Vector} {after : List Vector} {u : Vector} → AtCut v w before x after u → pos 0 <ℤ turn u v x
-before_x {v} {w} {before} {x} {after} {u} k = pos_from (turn u v x) k.inside.before off
+before_x {v} {w} {before} {x} {after} {u} k = pos_of_nonneg k.inside.before off
   where
     off : ¬ (turn u v x ≡ pos 0)
     off e =

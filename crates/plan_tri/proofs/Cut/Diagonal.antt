@@ -1,7 +1,7 @@
 -- The points of the diagonal are points of the polygon: beside the diagonal a point is even in the first part and odd in the second.
 use Rattle.std.proofs.Common.{inl, inr, pos, ◌<ℤ◌, ◌≡◌, true, List, All, get_or, sym, ap₂, subst, ◌∙◌, arith, ◌⊎◌, Any, Contains}
 use Rattle.std.proofs.lemmas.List.Elements.{All-contains}
-use Rattle.plan_exact.specs.Vectors.{Vector, dot, cross}
+use Rattle.plan_exact.specs.Vectors.{dot, cross}
 use Rattle.plan_exact.proofs.Laws.{linear}
 use Rattle.plan_exact.proofs.Signs.{le_of_lt}
 use Rattle.plan_exact.proofs.Vectors.{cross_on_left}
@@ -10,7 +10,7 @@ use Rattle.plan_spec.specs.Polygon.{Inside, edges}
 use Rattle.plan_spec.specs.Segment.{Segment, segment, HasPoints, Common, On, Misses}
 use Rattle.plan_spec.specs.SimplePolygon.{InPolygon}
 use Rattle.plan_spec.specs.Triangulation.{Triangle, corners}
-use Rattle.plan_spec.specs.Vector.{IsPoint, turn, Same}
+use Rattle.plan_spec.specs.Vector.{Vector, IsPoint, turn, Same}
 use Rattle.plan_plane.proofs.Segment.Apart.{misses_by, off_by}
 use Rattle.plan_plane.proofs.Near.{step, step_point, step_between, along_zero}
 use Rattle.plan_plane.proofs.Polygon.Holding.{inside_between}

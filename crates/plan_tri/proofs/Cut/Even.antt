@@ -3,7 +3,7 @@ use Rattle.std.proofs.Common.{pos, ◌<ℤ◌, List, [], ◌∷◌, ◌≡◌, �
 use Rattle.std.proofs.lemmas.Bool.{true≢false}
 use Rattle.std.proofs.lemmas.List.Elements.{All-contains}
 use Rattle.plan_exact.specs.Sign.{Sign, is_negative, is_zero, is_positive}
-use Rattle.plan_exact.specs.Vectors.{Vector, cross, dot}
+use Rattle.plan_exact.specs.Vectors.{cross, dot}
 use Rattle.plan_exact.proofs.Laws.{linear}
 use Rattle.plan_exact.proofs.Signs.{le_of_lt, sign_of, mul_pos_neg, mul_zero, pos_of_mul, zero_of_mul}
 use Rattle.plan_exact.proofs.Vectors.{det_same, det_turned, cross_on_left, det_swapped}
@@ -12,7 +12,7 @@ use Rattle.plan_spec.specs.Polygon.{Inside, edges}
 use Rattle.plan_spec.specs.Segment.{Segment, On, segment, Common, Misses}
 use Rattle.plan_spec.specs.SimplePolygon.{InPolygon}
 use Rattle.plan_spec.specs.Triangulation.{Triangle, corners}
-use Rattle.plan_spec.specs.Vector.{IsPoint, turn, Same}
+use Rattle.plan_spec.specs.Vector.{Vector, IsPoint, turn, Same}
 use Rattle.plan_plane.proofs.Segment.SameSign.{zero_same}
 use Rattle.plan_plane.proofs.Near.{step, step_point, step_between, along_zero}
 use Rattle.plan_plane.proofs.Polygon.Holding.{inside_between}

@@ -3,7 +3,7 @@ use Rattle.std.proofs.Common.{◌≡◌, pos, arith, ◌⊎◌, inl, inr, List, 
 use Rattle.std.proofs.lemmas.List.Elements.{All-nil, All-cons, All-tail, All-append, All-head, All-weaker, Contains-push}
 use Rattle.plan_exact.specs.Vectors.{dot, cross, opposite}
 use Rattle.plan_exact.proofs.Laws.{linear, mul_comm}
-use Rattle.plan_exact.proofs.Signs.{le_of_lt}
+use Rattle.plan_exact.proofs.Signs.{le_of_lt, le_of_eq}
 use Rattle.plan_exact.proofs.Vectors.{cross_on_left, cross_on_right, det_swapped_right, det_turned, dot_opposite}
 use Rattle.plan_spec.specs.Parity.{parity}
 use Rattle.plan_spec.specs.Polygon.{edges}
@@ -35,7 +35,7 @@ use Rattle.plan_tri.proofs.Cut.Diagonal.{diagonal}
 use Rattle.plan_tri.proofs.Cut.Even.{even}
 use Rattle.plan_tri.proofs.Cut.Halves.{OutOfWays}
 use Rattle.plan_tri.proofs.Cut.Outside.{Off, OnlyAt, outside}
-use Rattle.plan_tri.proofs.Ear.Ear.{nonneg, end_moved, nonpos}
+use Rattle.plan_tri.proofs.Ear.Ear.{end_moved, nonpos}
 
 pub zero_at_x : (w u x : Vector) → dot (far w u x) x ≡ pos 0
 zero_at_x w u x = omega (arith, linear, far_value w u x x, mul_comm x.w (turn w u x))
@@ -48,7 +48,7 @@ meets_first {v} {w} {before} {x} {after} {u} k z hz a b = by (same_or_not z v)
     by (inl s) = (inl s, inl s)
     by (inr n) =
         let m = between v x z (points_of k.at).v_point (x_point k) hz a in
-        absurd (omega (arith, linear, b.in_line, pos_by_second m (cross v w) (second_weight m n) (nonneg (cross_on_left v w)) (after_x k)))
+        absurd (omega (arith, linear, b.in_line, pos_by_second m (cross v w) (second_weight m n) (le_of_eq (sym (cross_on_left v w))) (after_x k)))
 
 meets_last : {v w : Vector} {before : List Vector} {x : Vector} {after : List Vector} {u : Vector} → AtCut v w before x after u → MeetRight (segment v x) (segment u v)
 meets_last {v} {w} {before} {x} {after} {u} k z hz a b = by (same_or_not z v)
@@ -57,7 +57,7 @@ meets_last {v} {w} {before} {x} {after} {u} k z hz a b = by (same_or_not z v)
     by (inl s) = (inl s, inr s)
     by (inr n) =
         let m = between v x z (points_of k.at).v_point (x_point k) hz a in
-        absurd (omega (arith, linear, b.in_line, pos_by_second m (cross u v) (second_weight m n) (nonneg (cross_on_right u v)) (before_x k)))
+        absurd (omega (arith, linear, b.in_line, pos_by_second m (cross u v) (second_weight m n) (le_of_eq (sym (cross_on_right u v))) (before_x k)))
 
 meets_path : {v w : Vector} {before : List Vector} {x : Vector} {after : List Vector} {u : Vector} → AtCut v w before x after u → (s : Segment) → HasPoints s → EndWhereOn x s → Clean v w u (far w u x) s → MeetRight (segment v x) s
 meets_path {v} {w} {before} {x} {after} {u} k s hs ends clean z hz a b = by (same_or_not z x)
@@ -67,9 +67,9 @@ meets_path {v} {w} {before} {x} {after} {u} k s hs ends clean z hz a b = by (sam
     by (inr n) =
         let m = between v x z (points_of k.at).v_point (x_point k) hz a in
         absurd (clean z hz b (record {
-          after = nonneg_at m (cross v w) (nonneg (cross_on_left v w)) k.inside.after;
-          before = nonneg_at m (cross u v) (nonneg (cross_on_right u v)) k.inside.before;
-          within = pos_by_first m (far w u x) (first_weight m n) (corner_of k).at_v (nonneg (zero_at_x w u x));
+          after = nonneg_at m (cross v w) (le_of_eq (sym (cross_on_left v w))) k.inside.after;
+          before = nonneg_at m (cross u v) (le_of_eq (sym (cross_on_right u v))) k.inside.before;
+          within = pos_by_first m (far w u x) (first_weight m n) (corner_of k).at_v (le_of_eq (sym (zero_at_x w u x)));
         }))
 
 pub points_at : {v w : Vector} {before : List Vector} {x : Vector} {after : List Vector} {u : Vector} → AtCut v w before x after u → All IsPoint (whole v (w ∷ before) x (second after u))

@@ -1,9 +1,9 @@
 -- A polygon that is cut from its least vertex v to the vertex x of the corner: what is known of its two parts, and of itself.
-use Rattle.std.proofs.Common.{ℤ, pos, ◌<ℤ◌, ◌≡◌, ◌≤ℤ◌, arith, List}
+use Rattle.std.proofs.Common.{ℤ, pos, ◌<ℤ◌, ◌≡◌, ◌≤ℤ◌, arith, List, sym}
 use Rattle.std.specs.Prelude.{◌≡◌, pos, ◌≤ℤ◌, ◌<ℤ◌, ◌⊎◌, List, All, Contains, Any}
-use Rattle.plan_exact.specs.Vectors.{dot, cross, Vector}
+use Rattle.plan_exact.specs.Vectors.{dot, cross}
 use Rattle.plan_exact.proofs.Laws.{linear}
-use Rattle.plan_exact.proofs.Signs.{le_of_lt}
+use Rattle.plan_exact.proofs.Signs.{le_of_lt, le_of_eq}
 use Rattle.plan_exact.proofs.Vectors.{cross_on_left, cross_on_right}
 use Rattle.plan_spec.specs.Chain.{IsClosed}
 use Rattle.plan_spec.specs.Parity.{parity, xor}
@@ -58,15 +58,12 @@ pub record Inner (v w u g y : Vector) : Type 0 where
   pub before : pos 0 <ℤ turn u v y
   pub within : pos 0 <ℤ dot g y
 
-nonneg : {n : ℤ} → n ≡ pos 0 → pos 0 ≤ℤ n
-nonneg e = omega (arith, linear)
-
 pub inner : {v w u x g : Vector} {one two : List Vector} → Halves v w u x g one two → (y : Vector) → IsPoint y → On (segment v x) y → ¬ (Same y v) → ¬ (Same y x) → Inner v w u g y
 inner {v} {w} {u} {x} {g} h y hy o not_v not_x =
     let b = between v x y h.corner.point_v h.point_x hy o in
     record {
-      after = pos_by_second b (cross v w) (second_weight b not_v) (nonneg (cross_on_left v w)) h.after;
-      before = pos_by_second b (cross u v) (second_weight b not_v) (nonneg (cross_on_right u v)) h.before;
+      after = pos_by_second b (cross v w) (second_weight b not_v) (le_of_eq (sym (cross_on_left v w))) h.after;
+      before = pos_by_second b (cross u v) (second_weight b not_v) (le_of_eq (sym (cross_on_right u v))) h.before;
       within = pos_by_first b g (first_weight b not_x) h.corner.at_v h.at_x;
     }
 

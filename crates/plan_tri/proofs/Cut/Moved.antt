@@ -4,7 +4,7 @@ use Rattle.plan_exact.specs.Expr.{◌⊕◌, ◌⊗◌, neg}
 use Rattle.plan_exact.specs.Formal.{A, B, C, D}
 use Rattle.plan_exact.specs.Formal as F
 use Rattle.plan_exact.specs.Sign.{Sign, is_negative, is_zero, is_positive}
-use Rattle.plan_exact.specs.Vectors.{Vector, env, opposite, dot, cross}
+use Rattle.plan_exact.specs.Vectors.{env, opposite, dot, cross}
 use Rattle.plan_exact.proofs.Certificates.{eq_from}
 use Rattle.plan_exact.proofs.Laws.{linear}
 use Rattle.plan_exact.proofs.Signs.{zeros, sign_of, le_of_lt}
@@ -13,7 +13,7 @@ use Rattle.plan_spec.specs.Chain.{IsClosed}
 use Rattle.plan_spec.specs.Parity.{parity}
 use Rattle.plan_spec.specs.Polygon.{Inside}
 use Rattle.plan_spec.specs.Segment.{Segment, On, HasPoints}
-use Rattle.plan_spec.specs.Vector.{Same, turn, IsPoint}
+use Rattle.plan_spec.specs.Vector.{Vector, Same, turn, IsPoint}
 use Rattle.plan_plane.proofs.Segment.Apart.{From, from_near, from_both, small_step, misses_by, off_by}
 use Rattle.plan_plane.proofs.Near.{step, step_point, step_between, along_zero}
 use Rattle.plan_plane.proofs.Polygon.Holding.{inside_between}

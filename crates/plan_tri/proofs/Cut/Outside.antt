@@ -5,9 +5,9 @@ use Rattle.std.proofs.lemmas.List.{get_or_default}
 use Rattle.std.proofs.lemmas.List.Elements.{All-nil, All-cons, All-head, All-tail, All-weaker, All-contains}
 use Rattle.std.specs.Prelude.{List}
 use Rattle.plan_exact.specs.Sign.{Order, is_less, is_equal, is_greater}
-use Rattle.plan_exact.specs.Vectors.{Vector, dot}
+use Rattle.plan_exact.specs.Vectors.{dot}
 use Rattle.plan_exact.proofs.Laws.{linear}
-use Rattle.plan_exact.proofs.Signs.{order_of, le_of_lt}
+use Rattle.plan_exact.proofs.Signs.{order_of, le_of_lt, le_of_eq}
 use Rattle.plan_exact.proofs.Vectors.{det_swapped}
 use Rattle.plan_spec.specs.Chain.{IsClosed}
 use Rattle.plan_spec.specs.Parity.{parity}
@@ -36,9 +36,6 @@ OutOf vs v x s = (y : Vector) → IsPoint y → On s y → ¬ (Same y v) → ¬ 
 abbrev pub OnlyAt : List Segment → Vector → Vector → Type 0
 OnlyAt chain e o = (c : Vector) → IsPoint c → On (segment e o) c → Any (λ s. On s c) chain → Same c o
 
-nonneg : {n : ℤ} → n ≡ pos 0 → pos 0 ≤ℤ n
-nonneg x = omega (arith, linear)
-
 pub but_at_one_end : (chain : List Segment) (e o y : Vector) → IsPoint e → IsPoint o → IsPoint y → ¬ (Same o e) → OnlyAt chain e o → On (segment e o) y → ¬ (Same y o) → Misses (segment y e) chain
 but_at_one_end chain e o y he ho hy differ only way apart k d within c =
     let m = between e o y he ho hy way in
@@ -53,7 +50,7 @@ but_at_one_end chain e o y he ho hy differ only way apart k d within c =
     y_ahead m = by (order_of (pos 0) (dot (facing o e) y))
       where
         at_least : pos 0 ≤ℤ dot (facing o e) y
-        at_least = nonneg_at m (facing o e) (le_of_lt (facing_to o e differ)) (nonneg (facing_from o e))
+        at_least = nonneg_at m (facing o e) (le_of_lt (facing_to o e differ)) (le_of_eq (sym (facing_from o e)))
 
         by : Order (pos 0) (dot (facing o e) y) → pos 0 <ℤ dot (facing o e) y
         by (is_less h) = h

@@ -1,6 +1,7 @@
 -- The triangles of the two parts of a cut are those of the polygon.
 use Rattle.std.proofs.Common.{List, [], ◌∷◌, All, ◌++◌, inl, inr, get_or, refl, ◌≡◌, ◌⊎◌, Contains, sym, subst, Any}
 use Rattle.std.proofs.lemmas.List.Elements.{All-nil, All-cons, All-head, All-append, Contains-push, All-tail}
+use Rattle.plan_exact.proofs.Signs.{le_of_eq}
 use Rattle.plan_exact.specs.Vectors.{cross}
 use Rattle.plan_exact.proofs.Vectors.{cross_on_left, cross_on_right}
 use Rattle.plan_spec.specs.Polygon.{edges}
@@ -24,7 +25,7 @@ use Rattle.plan_tri.proofs.Cut.Even.{even}
 use Rattle.plan_tri.proofs.Cut.Fits.{loop_two, second_meets_one, off_one, second_points, points_one, second_outside, zero_at_x, points_at, clear_one, right_all, steep, points_two, first_outside, clear_two}
 use Rattle.plan_tri.proofs.Cut.Halves.{Halves, Whole, OutOfWays}
 use Rattle.plan_tri.proofs.Cut.Outside.{OneOf, strand_edges, OutOf, OutVertex, AnyVertex, edge_out, edge_out_reversed}
-use Rattle.plan_tri.proofs.Ear.Ear.{nonneg, nonpos}
+use Rattle.plan_tri.proofs.Ear.Ear.{nonpos}
 use Rattle.plan_tri.proofs.Region.Parts.{parities, Fit, of_parts}
 use Rattle.plan_tri.proofs.Region.Triangulated.{Triangulated}
 
@@ -82,7 +83,7 @@ halves_of {v} {w} {before} {x} {after} {u} k = record {
   point_x = x_point k;
   after = after_x k;
   before = before_x k;
-  at_x = nonneg (zero_at_x w u x);
+  at_x = le_of_eq (sym (zero_at_x w u x));
   steep = steep k;
   vertices_one = all_one IsPoint v (w ∷ before) x (second after u) (points_at k);
   points_one = points_one k;

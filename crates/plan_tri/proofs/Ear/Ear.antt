@@ -7,7 +7,7 @@ use Rattle.plan_exact.specs.Formal as F
 use Rattle.plan_exact.specs.Vectors.{cross, env, dot}
 use Rattle.plan_exact.proofs.Certificates.{eq_from}
 use Rattle.plan_exact.proofs.Laws.{linear}
-use Rattle.plan_exact.proofs.Signs.{le_of_lt, zeros, le_or_lt, mul_pos, mul_pos_neg, mul_nonneg_nonpos, mul_of_zero, zero_of_mul}
+use Rattle.plan_exact.proofs.Signs.{le_of_lt, zeros, le_or_lt, mul_pos, mul_pos_neg, mul_nonneg_nonpos, mul_of_zero, zero_of_mul, le_of_eq}
 use Rattle.plan_exact.proofs.Vectors.{det_turned, cross_on_left, cross_on_right, det_swapped}
 use Rattle.plan_spec.specs.Parity.{parity, xor}
 use Rattle.plan_spec.specs.Polygon.{edges, Inside}
@@ -33,7 +33,7 @@ use Rattle.plan_cross.proofs.ParityLaw.Closed.{parity_constant}
 use Rattle.plan_poly.proofs.EvenOdd.Chains.{closed}
 use Rattle.plan_poly.proofs.EvenOdd.Triangle.{inside_from, odd_inside}
 use Rattle.plan_poly.proofs.Loop.Corner.{AtCorner, points_of, first_meets, last_meets, Points, right_of_v}
-use Rattle.plan_poly.proofs.Loop.Loop.{IsEnd, MeetRight, Loop, meet_reversed}
+use Rattle.plan_poly.proofs.Loop.Loop.{IsEnd, MeetRight, Loop, meet_reversed, end_reversed}
 use Rattle.plan_poly.proofs.Loop.Parts.{EndWhereOn, vertices_end, rotated, loop_part}
 use Rattle.plan_tri.proofs.Corner.Beside.{off_chain, beside_ahead}
 use Rattle.plan_tri.proofs.Corner.Clean.{Shape, clean}
@@ -50,9 +50,6 @@ pub record InTriangle (v w u z : Vector) : Type 0 where
 pub end_moved : (s : Segment) (z u : Vector) → IsPoint u → Same z u → IsEnd s u → IsEnd s z
 end_moved s z u hu e (inl f) = inl (Same-trans z u s.a hu e f)
 end_moved s z u hu e (inr f) = inr (Same-trans z u s.b hu e f)
-
-pub nonneg : {n : ℤ} → n ≡ pos 0 → pos 0 ≤ℤ n
-nonneg x = omega (arith, linear)
 
 pub nonpos : {n : ℤ} → n ≡ pos 0 → n ≤ℤ pos 0
 nonpos x = omega (arith, linear)
@@ -150,7 +147,7 @@ crossing {v} {w} {u} {e} {o} {z} k = by (le_or_lt (pos 0) (turn v w e)) (le_or_l
 
     -- the point where the segment meets the line of a side, by a covector l that is 0 at the corner c there
     at : (l c : Vector) → IsPoint c → dot l c ≡ pos 0 → EndWhereOn c (segment e o) → ((y : Vector) → dot l y ≡ pos 0 → turn w u y ≡ pos 0 → Same y c) → dot l e <ℤ pos 0 → pos 0 <ℤ dot l z → ⊥
-    at l c hc zero ends same le lz = go (through l l e z k.e_point k.z_point (le_of_lt lz) le (nonneg entry_zero))
+    at l c hc zero ends same le lz = go (through l l e z k.e_point k.z_point (le_of_lt lz) le (le_of_eq (sym entry_zero)))
       where
         entry_zero : dot l (entry_at l e z) ≡ pos 0
         entry_zero = at_own l e z
@@ -173,7 +170,7 @@ crossing {v} {w} {u} {e} {o} {z} k = by (le_or_lt (pos 0) (turn v w e)) (le_or_l
             finish (ends (on_same e o y c k.e_point k.o_point n.point hc at_c (on (between_part k.way n.between))))
 
     by : (pos 0 ≤ℤ turn v w e) ⊎ (turn v w e <ℤ pos 0) → (pos 0 ≤ℤ turn u v e) ⊎ (turn u v e <ℤ pos 0) → ⊥
-    by (inl x) (inl y) = k.e_out (record { after = x; ahead = nonneg level_e; before = y })
+    by (inl x) (inl y) = k.e_out (record { after = x; ahead = le_of_eq (sym level_e); before = y })
     by (inr x) t = at (cross v w) w k.w_point (cross_on_right v w) k.w_ends (λ y a f. same_w v w u y k.turns_left a f) x k.after
     by s (inr y) = at (cross u v) u k.u_point (cross_on_left u v) k.u_ends (λ y b f. same_u v w u y k.turns_left b f) y k.before
 
@@ -196,8 +193,8 @@ on_diagonal {v} {w} {mid} {u} k z hz o not_u not_w =
     let p = points_of k.at in
     let m = between u w z p.u_point p.w_point hz o in
     record {
-      after = pos_by_first m (cross v w) (first_weight m not_w) (omega (arith, linear, k.at.turns_left, det_turned u v w)) (nonneg (cross_on_right v w));
-      before = pos_by_second m (cross u v) (second_weight m not_u) (nonneg (cross_on_left u v)) k.at.turns_left;
+      after = pos_by_first m (cross v w) (first_weight m not_w) (omega (arith, linear, k.at.turns_left, det_turned u v w)) (le_of_eq (sym (cross_on_right v w)));
+      before = pos_by_second m (cross u v) (second_weight m not_u) (le_of_eq (sym (cross_on_left u v))) k.at.turns_left;
       level = omega (arith, linear, o.in_line, det_swapped w u z);
     }
 
@@ -211,7 +208,7 @@ ear_meets_segment {v} {w} {mid} {u} k e o he out vo w_ends u_ends clear z hz a b
     p = points_of k.at
 
     inside : OnDiagonal v w u z → InTriangle v w u z
-    inside d = record { after = le_of_lt d.after; ahead = nonneg d.level; before = le_of_lt d.before }
+    inside d = record { after = le_of_lt d.after; ahead = le_of_eq (sym d.level); before = le_of_lt d.before }
 
     by : Same z u ⊎ ¬ (Same z u) → Same z w ⊎ ¬ (Same z w) → IsEnd (segment u w) z × IsEnd (segment e o) z
     by (inl s) t = (inl s, end_moved (segment e o) z u (points_of k.at).u_point s (u_ends (on_same e o z u he vo.0 hz (points_of k.at).u_point s b)))
@@ -241,19 +238,15 @@ ear_meets_segment {v} {w} {mid} {u} k e o he out vo w_ends u_ends clear z hz a b
         not_o d (inr (inl q)) s = not_u (subst (Same z) q s)
         not_o d (inr (inr n)) s = n (inside_same hz vo.0 s (inside d))
 
-end_turned : (a b z : Vector) → IsEnd (segment a b) z → IsEnd (segment b a) z
-end_turned a b z (inl e) = inr e
-end_turned a b z (inr e) = inl e
-
 -- the same from the other end
 ear_meets_reversed : {v w : Vector} {mid : List Vector} {u : Vector} → AtEar v w mid u → (e o : Vector) → IsPoint e → ¬ (InTriangle v w u e) → Vertex v w u o → EndWhereOn w (segment o e) → EndWhereOn u (segment o e) → Clean v w u (cross w u) (segment o e) → MeetRight (segment u w) (segment o e)
 ear_meets_reversed {v} {w} {mid} {u} k e o he out vo w_ends u_ends clear z hz a b =
     let m = ear_meets_segment k e o he out vo
-    (λ on. end_turned o e w (w_ends (on_reversed e o w on)))
-    (λ on. end_turned o e u (u_ends (on_reversed e o u on)))
+    (λ on. end_reversed o e w (w_ends (on_reversed e o w on)))
+    (λ on. end_reversed o e u (u_ends (on_reversed e o u on)))
     (λ y hy on. clear y hy (on_reversed e o y on))
     z hz a (on_reversed o e z b) in
-    (m.0, end_turned e o z m.1)
+    (m.0, end_reversed e o z m.1)
 
 -- what is known of the end w, and of the end u, along the path
 path_ends : {v w : Vector} {mid : List Vector} {u : Vector} → AtEar v w mid u → (y : Vector) → All (EndWhereOn y) (edges (polygon v w mid u)) → All (EndWhereOn y) (chain w mid u)
@@ -408,7 +401,7 @@ ear_diagonal {v} {w} {mid} {u} k z hz o = by (any_on (edges (from_u v w mid u)) 
             by (inr n) = clear c.0 c.1 c.3 (record {
               after = nonneg_at m (cross v w) (le_of_lt d.after) iy.after;
               before = nonneg_at m (cross u v) (le_of_lt d.before) iy.before;
-              within = pos_by_second m (cross w u) (second_weight m n) (nonneg d.level) iy.within;
+              within = pos_by_second m (cross w u) (second_weight m n) (le_of_eq (sym d.level)) iy.within;
             })
 
     by : Any (λ s. On s z) (edges (from_u v w mid u)) ⊎ All (λ s. ¬ (On s z)) (edges (from_u v w mid u)) → InPolygon (from_u v w mid u) z

@@ -4,7 +4,7 @@ use Rattle.std.proofs.Common.{◌≡◌, inl, inr, pos, ◌<ℤ◌, List, ◌∷
 use Rattle.std.proofs.lemmas.Bool.{true≢false}
 use Rattle.std.proofs.lemmas.List.Elements.{All-head, All-contains}
 use Rattle.plan_exact.specs.Sign.{Sign, is_negative, is_zero, is_positive}
-use Rattle.plan_exact.specs.Vectors.{Vector, cross}
+use Rattle.plan_exact.specs.Vectors.{cross}
 use Rattle.plan_exact.proofs.Laws.{linear, one_mul}
 use Rattle.plan_exact.proofs.Signs.{le_of_lt, sign_of}
 use Rattle.plan_exact.proofs.Vectors.{cross_on_left, cross_on_right, det_turned}
@@ -12,7 +12,7 @@ use Rattle.plan_spec.specs.Polygon.{Inside, edges}
 use Rattle.plan_spec.specs.Segment.{On, Segment, segment}
 use Rattle.plan_spec.specs.SimplePolygon.{InPolygon}
 use Rattle.plan_spec.specs.Triangulation.{Triangle, corners}
-use Rattle.plan_spec.specs.Vector.{IsPoint, turn}
+use Rattle.plan_spec.specs.Vector.{Vector, IsPoint, turn}
 use Rattle.plan_plane.proofs.Lists.{all_right}
 use Rattle.plan_plane.proofs.Backwards.{back, length_back}
 use Rattle.plan_plane.proofs.Segment.Apart.{From, from_both, from_near}

@@ -14,14 +14,11 @@ use Rattle.plan_grid.specs.Spot.{spot_seen, spots_seen, IsWithin}
 use Rattle.plan_poly.specs.Polygon.{IsPolygon}
 use Rattle.plan_poly.proofs.FromLeast.Arranged.{loop_of}
 use Rattle.plan_poly.proofs.FromLeast.ByPlace.{from_least_is}
-use Rattle.plan_poly.proofs.Spots.{count_seen}
+use Rattle.plan_poly.proofs.Spots.{count_seen, points_seen}
 use Rattle.plan_tri.specs.declared.triangle.Triangle.{Triangle}
 use Rattle.plan_tri.specs.Triangle.{triangle_seen, triangles_seen, InSome, IsProper}
 use Rattle.plan_tri.proofs.Region.Region.{whole}
 use Rattle.plan_tri.proofs.Region.Triangulated.{Triangulated}
-
-points_seen : (s : List Spot) → All IsPoint (spots_seen s)
-points_seen s = All-map IsPoint spot_seen s (λ k d within. omega (arith, ints))
 
 own_list : (s : List Spot) → IsFromLeast (spots_seen s) → from_least (spots_seen s) ≡ spots_seen s
 own_list [] h = refl

@@ -6,7 +6,6 @@ use Rattle.std.proofs.lemmas.Bool.{and_parts, and_from, true≢false}
 use Rattle.std.proofs.lemmas.Int.{ints}
 use Rattle.std.proofs.lemmas.List.Elements.{All-nil, All-tail, All-cons, All-contains_itself, All-head, All-append}
 use Rattle.std.specs.Prelude.{int_le}
-use Rattle.plan_exact.specs.Vectors.{Vector}
 use Rattle.plan_exact.proofs.Laws.{linear}
 use Rattle.plan_exact.proofs.Tests.{lt_true}
 use Rattle.plan_exact.proofs.Vectors.{det_turned}

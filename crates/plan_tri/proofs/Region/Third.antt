@@ -1,12 +1,11 @@
 -- The third corner of a triangle that has a given side is left of the side.
 use Rattle.std.proofs.Common.{pos, ◌<ℤ◌, inl, inr, sym, subst, arith}
-use Rattle.plan_exact.specs.Vectors.{Vector}
 use Rattle.plan_exact.proofs.Laws.{linear}
 use Rattle.plan_exact.proofs.Vectors.{det_turned}
 use Rattle.plan_spec.specs.Polygon.{Inside}
 use Rattle.plan_spec.specs.Segment.{Segment, segment}
 use Rattle.plan_spec.specs.Triangulation.{Triangle, corners}
-use Rattle.plan_spec.specs.Vector.{IsPoint, turn}
+use Rattle.plan_spec.specs.Vector.{Vector, IsPoint, turn}
 use Rattle.plan_plane.proofs.Polygon.Sides.{first_inside, second_inside, third_inside}
 use Rattle.plan_tri.proofs.Region.Triangulated.{HasSide}
 
