@@ -1,6 +1,5 @@
 -- A triangle that is not flat holds the same points by its three sides and by the even-odd rule, whichever way its vertices are given.
-use Rattle.std.proofs.Common.{◌≡◌, ℤ, pos, ◌<ℤ◌, true, int_lt, arith, false, ◌↔◌, Bool, cond, [], ◌∷◌, refl}
-use Rattle.std.proofs.lemmas.Int.{ints}
+use Rattle.std.proofs.Common.{◌≡◌, pos, ◌<ℤ◌, true, int_lt, arith, false, ◌↔◌, Bool, cond, [], ◌∷◌, refl}
 use Rattle.plan_exact.proofs.Tests.{lt_from_true, le_from_false}
 use Rattle.plan_exact.proofs.Signs.{pos_of_nonneg}
 use Rattle.plan_exact.proofs.Laws.{linear}

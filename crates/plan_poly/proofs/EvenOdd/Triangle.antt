@@ -1,7 +1,6 @@
 -- A point is in the polygon of three vertices that turn left, by parity or on an edge, exactly where it is on or left of the three sides.
 use Rattle.std.proofs.Common.{ℤ, ◌*ℤ◌, Bool, ◌≤ℤ◌, ◌<ℤ◌, arith, ◌≡◌, ◌⊎◌, inl, inr, pos, true, false, ◌&&◌, not, sym, ap₂, ◌∙◌, refl, ◌+ℤ◌, [], ◌∷◌, ap, All, subst}
 use Rattle.std.proofs.lemmas.Bool.{true≢false}
-use Rattle.std.proofs.lemmas.Int.{ints}
 use Rattle.std.proofs.lemmas.List.Elements.{All-nil, All-cons}
 use Rattle.std.specs.Prelude.{int_lt}
 use Rattle.plan_exact.specs.Expr.{◌⊕◌, ◌⊗◌}

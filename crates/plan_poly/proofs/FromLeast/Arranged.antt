@@ -2,10 +2,9 @@
 use Rattle.std.proofs.Common.{◌≡◌, inl, inr, suc, ◌-◌, ◌≤◌, pos, ◌<ℤ◌, List, [], ◌∷◌, ◌++◌, reverse, take, drop, length, All, refl, sym, ap, ap₂, subst, ◌∙◌, arith}
 use Rattle.std.proofs.Math.Seq.{drop-append_seam, take-append_seam}
 use Rattle.std.proofs.lemmas.Grind.{reverse_onto}
-use Rattle.std.proofs.lemmas.Int.{ints}
 use Rattle.std.proofs.lemmas.List.{append-nil, reverse-append, length-reverse, length-append}
-use Rattle.std.proofs.lemmas.List.Elements.{All-nil, All-cons, All-append}
-use Rattle.plan_spec.specs.Vector.{IsPoint, turn}
+use Rattle.std.proofs.lemmas.List.Elements.{All-cons, All-append}
+use Rattle.plan_spec.specs.Vector.{turn}
 use Rattle.plan_spec.specs.Polygon.{IsFromLeast}
 use Rattle.plan_spec.specs.SimplePolygon.{last}
 use Rattle.plan_spec.specs.Triangulation.{from_least}

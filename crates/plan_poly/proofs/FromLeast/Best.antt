@@ -1,9 +1,7 @@
 -- The part of a list at the best of its wanted vertices, for any order of points by a test.
-use Rattle.std.proofs.Common.{◌≡◌, ℤ, ◌≤ℤ◌, false, Bool, true, refl, List, ◌∷◌, ◌++◌, All, Option, Some, None, cond, [], get_or, sym, ap, subst, ◌∙◌}
+use Rattle.std.proofs.Common.{◌≡◌, false, Bool, true, refl, List, ◌∷◌, ◌++◌, All, Option, Some, None, cond, [], get_or, sym, ap, subst, ◌∙◌}
 use Rattle.std.proofs.lemmas.Bool.{true≢false}
 use Rattle.std.proofs.lemmas.List.Elements.{All-cons, All-head, All-nil, All-tail}
-use Rattle.std.specs.Prelude.{int_lt}
-use Rattle.plan_exact.proofs.Tests.{lt_false}
 use Rattle.plan_spec.specs.Triangulation.{Parted, earlier, part_at_best}
 use Rattle.plan_spec.specs.Vector.{Vector, IsPoint}
 use Rattle.plan_plane.proofs.Lists.{all_right}

@@ -10,7 +10,7 @@ use Rattle.plan_exact.proofs.Laws.{linear}
 use Rattle.plan_exact.proofs.Signs.{order_of, le_of_eq}
 use Rattle.plan_exact.proofs.Tests.{lt_true, lt_false}
 use Rattle.plan_spec.specs.Triangulation.{comes_before, from_least, Parted, part_at_best, every, from_part, earlier}
-use Rattle.plan_spec.specs.Vector.{Vector, SameX, LtX, LeY, Before, LeX, IsPoint, Same}
+use Rattle.plan_spec.specs.Vector.{Vector, SameX, LtX, LeY, Before, IsPoint, Same}
 use Rattle.plan_plane.proofs.Lists.{all_left, all_right}
 use Rattle.plan_plane.proofs.Pairs.{Pairs, pairs_right, pairs_across}
 use Rattle.plan_plane.proofs.Segment.Between.{flip}

@@ -1,5 +1,5 @@
 -- The search for the least spot of a list, and the list that begins with it.
-use Rattle.std.proofs.Common.{◌≡◌, ℕ, suc, ◌<◌, List, ◌++◌, Some, take, drop, length, refl, sym, ap, ap₂, ◌∙◌, arith}
+use Rattle.std.proofs.Common.{◌≡◌, ℕ, suc, ◌<◌, List, ◌++◌, Some, take, drop, length, refl, sym, ap, ap₂, ◌∙◌}
 use Rattle.std.proofs.Math.Seq.{drop-cons}
 use Rattle.std.proofs.lemmas.List.{map-append, take-map, drop-map}
 use Rattle.plan_spec.specs.Vector.{Before}
@@ -9,7 +9,7 @@ use Rattle.plan_grid.specs.Spot.{spot_seen, spots_seen}
 use Rattle.plan_poly.specs.Part.{part_at}
 use Rattle.plan_poly.proofs.FromLeast.ByPlace.{before_true, not_before}
 use Rattle.plan_poly.proofs.FromLeast.Search.{Behind, beyond, kept, taken}
-use Rattle.plan_poly.proofs.Spots.{vertex, vertex_seen, count_seen, count_below}
+use Rattle.plan_poly.proofs.Spots.{vertex, vertex_seen, count_below}
 
 abbrev pub LeastBehind : List Spot → ℕ → ℕ → Type 0
 LeastBehind spots i k = Behind every comes_before (spots_seen spots) i k

@@ -1,5 +1,5 @@
 -- The edges of a polygon that do not begin or end at its least vertex have no point in the corner: such an edge would have to come in through one of the two edges at v.
-use Rattle.std.proofs.Common.{ℤ, pos, ◌≤ℤ◌, ◌<ℤ◌, List, All, ◌≡◌, ◌⊎◌, inl, inr, arith, [], ◌∷◌, ◌++◌, get_or, sym}
+use Rattle.std.proofs.Common.{pos, ◌≤ℤ◌, ◌<ℤ◌, List, All, ◌≡◌, ◌⊎◌, inl, inr, arith, [], ◌∷◌, ◌++◌, get_or, sym}
 use Rattle.std.proofs.lemmas.List.Elements.{All-nil, All-cons, All-append}
 use Rattle.plan_exact.specs.Vectors.{dot, cross}
 use Rattle.plan_exact.proofs.Laws.{linear}

@@ -1,5 +1,5 @@
 -- The corner of a polygon at its least vertex v, between the next vertex w and the last one u, as far as the covector g is positive: it is convex, and has v.
-use Rattle.std.proofs.Common.{◌≡◌, ℤ, pos, ◌≤ℤ◌, arith, sym}
+use Rattle.std.proofs.Common.{ℤ, pos, ◌≤ℤ◌, arith, sym}
 use Rattle.std.specs.Prelude.{pos, ◌≤ℤ◌, ◌<ℤ◌, ◌⊎◌}
 use Rattle.plan_exact.specs.Vectors.{dot, cross}
 use Rattle.plan_exact.proofs.Laws.{linear}

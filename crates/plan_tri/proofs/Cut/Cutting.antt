@@ -1,15 +1,14 @@
 -- A cut from the least vertex v to the vertex x of the ear that is farthest from the line through w and u: x is strictly inside the corner, and the path from w to u is out of it.
-use Rattle.std.proofs.Common.{ℤ, ◌*ℤ◌, ◌<ℤ◌, List, ◌∷◌, ◌++◌, All, [], ◌≡◌, append_assoc, ap, ◌∙◌, subst, get_or, pos, ◌≤ℤ◌, sym, arith, inl, inr, ◌+ℤ◌, ◌-ℤ◌}
+use Rattle.std.proofs.Common.{◌*ℤ◌, ◌<ℤ◌, List, ◌∷◌, ◌++◌, All, [], ◌≡◌, append_assoc, ap, ◌∙◌, subst, get_or, pos, ◌≤ℤ◌, arith, inl, inr, ◌+ℤ◌, ◌-ℤ◌}
 use Rattle.std.proofs.lemmas.List.Elements.{All-head, All-tail}
 use Rattle.plan_exact.specs.Expr.{◌⊕◌, ◌⊗◌, neg, ◌⊖◌}
 use Rattle.plan_exact.specs.Formal.{A, B, C, D}
 use Rattle.plan_exact.specs.Formal as F
-use Rattle.plan_exact.specs.Sign.{Order, is_less, is_equal, is_greater}
 use Rattle.plan_exact.specs.Vectors.{env, cross, dot}
 use Rattle.plan_exact.proofs.Certificates.{eq_from, lt_from}
 use Rattle.plan_exact.proofs.Laws.{linear, mul_comm}
 use Rattle.plan_exact.proofs.Ring.{ring}
-use Rattle.plan_exact.proofs.Signs.{order_of, zeros, mul_pos, mul_nonneg, le_of_lt, pos_of_mul, pos_of_nonneg}
+use Rattle.plan_exact.proofs.Signs.{zeros, mul_pos, mul_nonneg, le_of_lt, pos_of_mul, pos_of_nonneg}
 use Rattle.plan_exact.proofs.Vectors.{cross_on_left, cross_on_right}
 use Rattle.plan_spec.specs.Route.{segments_from}
 use Rattle.plan_spec.specs.Segment.{segment}

@@ -1,8 +1,7 @@
 -- A polygon that is cut from its least vertex v to the vertex x of the corner: what is known of its two parts, and of itself.
-use Rattle.std.proofs.Common.{ℤ, pos, ◌<ℤ◌, ◌≡◌, ◌≤ℤ◌, arith, List, sym}
+use Rattle.std.proofs.Common.{pos, ◌<ℤ◌, ◌≡◌, ◌≤ℤ◌, List, sym}
 use Rattle.std.specs.Prelude.{◌≡◌, pos, ◌≤ℤ◌, ◌<ℤ◌, ◌⊎◌, List, All, Contains, Any}
 use Rattle.plan_exact.specs.Vectors.{dot, cross}
-use Rattle.plan_exact.proofs.Laws.{linear}
 use Rattle.plan_exact.proofs.Signs.{le_of_lt, le_of_eq}
 use Rattle.plan_exact.proofs.Vectors.{cross_on_left, cross_on_right}
 use Rattle.plan_spec.specs.Chain.{IsClosed}

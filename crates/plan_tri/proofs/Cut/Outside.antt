@@ -1,5 +1,5 @@
 -- Vertices and edges that have no point of a polygon, as soon as one point beside them has none.
-use Rattle.std.proofs.Common.{List, Any, ◌≡◌, ℤ, pos, ◌≤ℤ◌, arith, ◌<ℤ◌, ℕ, ◌<◌, length, get_or, sym, [], ◌∷◌, All, refl, ◌∙◌, inl, inr, false, Contains, subst, ◌⊎◌, Bool, true, ◌++◌}
+use Rattle.std.proofs.Common.{List, Any, ◌≡◌, pos, ◌≤ℤ◌, arith, ◌<ℤ◌, ℕ, ◌<◌, length, get_or, sym, [], ◌∷◌, All, refl, ◌∙◌, inl, inr, false, Contains, subst, ◌⊎◌, Bool, true, ◌++◌}
 use Rattle.std.proofs.lemmas.Bool.{true≢false}
 use Rattle.std.proofs.lemmas.List.{get_or_default}
 use Rattle.std.proofs.lemmas.List.Elements.{All-nil, All-cons, All-head, All-tail, All-weaker, All-contains}

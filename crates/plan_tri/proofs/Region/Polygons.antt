@@ -1,6 +1,5 @@
 -- The triangles of a polygon of spots: they make it up, two fewer than its vertices, each counterclockwise from its least corner, with corners that are vertices.
 use Rattle.std.proofs.Common.{◌≡◌, ◌↔◌, ℕ, ◌+◌, ◌<◌, ◌≤◌, pos, ◌<ℤ◌, List, [], ◌∷◌, length, get_or, All, Contains, unsigned_abs, refl, sym, ap, subst, ◌∙◌, arith}
-use Rattle.std.proofs.lemmas.Int.{ints}
 use Rattle.std.proofs.lemmas.List.{append-nil, length-map, get_or-map}
 use Rattle.std.proofs.lemmas.List.Elements.{All-nil, All-cons, All-map, All-contains}
 use Rattle.plan_exact.proofs.Laws.{linear}

@@ -1,12 +1,12 @@
 -- The search for the farthest spot in a triangle, from the end of a list to its front.
-use Rattle.std.proofs.Common.{◌≡◌, ℕ, suc, ◌<◌, Bool, true, false, cond, List, Option, Some, None, IfSome, MatchOption, option_map, length, get_or, refl, ap, ap₂, ◌∙◌, arith}
+use Rattle.std.proofs.Common.{◌≡◌, ℕ, suc, ◌<◌, Bool, true, false, cond, List, Option, Some, None, IfSome, MatchOption, option_map, length, get_or, refl, ap, ap₂, ◌∙◌}
 use Rattle.plan_spec.specs.Vector.{Vector}
 use Rattle.plan_spec.specs.Triangulation.{part_at_best, in_triangle, farther}
 use Rattle.plan_grid.specs.declared.spot.Spot.{Spot}
 use Rattle.plan_grid.specs.Spot.{spot_seen, spots_seen}
 use Rattle.plan_poly.specs.Part.{part_at}
 use Rattle.plan_poly.proofs.FromLeast.Search.{beyond, Behind, NoneBehind, still, still_none, found, kept, taken, at_end}
-use Rattle.plan_poly.proofs.Spots.{vertex, vertex_seen, count_seen, count_below}
+use Rattle.plan_poly.proofs.Spots.{vertex, vertex_seen, count_below}
 use Rattle.plan_tri.specs.Farthest.{farther_number}
 
 -- of the spots from i on, `found` is the farthest that is in the triangle, if one is
