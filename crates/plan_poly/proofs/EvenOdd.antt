@@ -4,5 +4,6 @@ pub mod Turned
 pub mod Walk
 pub mod Backwards
 pub mod Orders
+pub mod Side
 pub mod Triangle
 pub mod ThreeSides

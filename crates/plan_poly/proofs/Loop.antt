@@ -4,4 +4,5 @@ pub mod Parts
 pub mod Corner
 pub mod Straight
 pub mod Backwards
+pub mod Edges
 pub mod Simple

@@ -5,5 +5,7 @@ pub mod Halves
 pub mod Even
 pub mod Diagonal
 pub mod Cutting
-pub mod Fits
+pub mod Loops
+pub mod OutOfWay
+pub mod VerticesOutside
 pub mod Together

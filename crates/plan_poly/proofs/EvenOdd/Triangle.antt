@@ -1,95 +1,25 @@
 -- A point is in the polygon of three vertices that turn left, by parity or on an edge, exactly where it is on or left of the three sides.
-use Rattle.std.proofs.Common.{ℤ, ◌*ℤ◌, Bool, ◌≤ℤ◌, ◌<ℤ◌, arith, ◌≡◌, ◌⊎◌, inl, inr, pos, true, false, ◌&&◌, not, sym, ap₂, ◌∙◌, refl, ◌+ℤ◌, [], ◌∷◌, ap, All, subst}
+use Rattle.std.proofs.Common.{ℤ, Bool, ◌≤ℤ◌, ◌<ℤ◌, arith, ◌≡◌, pos, true, false, ◌&&◌, not, ap₂, ◌∙◌, refl, [], ◌∷◌, ap, ◌*ℤ◌, ◌⊎◌, inl, inr, sym, All, subst}
 use Rattle.std.proofs.lemmas.Bool.{true≢false}
 use Rattle.std.proofs.lemmas.List.Elements.{All-nil, All-cons}
-use Rattle.std.specs.Prelude.{int_lt}
-use Rattle.plan_exact.specs.Expr.{◌⊕◌, ◌⊗◌}
-use Rattle.plan_exact.specs.Formal.{A, B, C, D}
-use Rattle.plan_exact.specs.Formal as F
 use Rattle.plan_exact.specs.Sign.{Sign, is_negative, is_zero, is_positive}
-use Rattle.plan_exact.specs.Vectors.{env}
-use Rattle.plan_exact.proofs.Certificates.{eq_from}
 use Rattle.plan_exact.proofs.Laws.{linear}
-use Rattle.plan_exact.proofs.Ring.{ring}
-use Rattle.plan_exact.proofs.Signs.{le_or_lt, zeros, zero_of_mul, mul_pos, mul_nonneg_nonpos, le_of_lt, mul_nonpos, mul_neg_pos, sign_of, mul_nonpos_nonneg}
-use Rattle.plan_exact.proofs.Tests.{lt_true, lt_false, lt_from_true, le_from_false}
-use Rattle.plan_exact.proofs.Vectors.{det_swapped, det_turned}
-use Rattle.plan_spec.specs.Parity.{over, parity, xor}
+use Rattle.plan_exact.proofs.Signs.{zero_of_mul, mul_pos, mul_nonneg_nonpos, le_of_lt, zeros, mul_nonpos, mul_neg_pos, sign_of, mul_nonpos_nonneg, le_or_lt}
+use Rattle.plan_exact.proofs.Vectors.{det_turned}
+use Rattle.plan_spec.specs.Parity.{parity, xor, over}
 use Rattle.plan_spec.specs.Polygon.{edges, Inside}
 use Rattle.plan_spec.specs.Segment.{segment, Segment, On}
 use Rattle.plan_spec.specs.SimplePolygon.{InPolygon}
-use Rattle.plan_spec.specs.Vector.{Vector, LeX, LtX, turn, IsPoint}
+use Rattle.plan_spec.specs.Vector.{Vector, turn, IsPoint}
 use Rattle.plan_plane.proofs.Lists.{any_here, any_there}
 use Rattle.plan_plane.proofs.Polygon.Holding.{inside_between}
 use Rattle.plan_plane.proofs.Polygon.Sides.{first_inside, second_inside, third_inside, on_first, on_last, on_third}
 use Rattle.plan_plane.proofs.Polygon.Triangle.{held}
 use Rattle.plan_plane.proofs.Segment.Between.{between, on, swapped}
-use Rattle.plan_plane.proofs.Segment.Line.{right, formal_right}
-use Rattle.plan_cross.proofs.ParityLaw.Step.{over_reversed}
-use Rattle.plan_cross.proofs.ParityLaw.Tests.{over_right_of_a, over_past_both, over_before_both}
-
--- ---- a side, over z or not, by the places of its ends and the side of z
--- whether a is right of z
-abbrev is_right : Vector → Vector → Bool
-is_right z a = int_lt (z.x *ℤ a.w) (a.x *ℤ z.w)
-
-over_pos : (a b z : Vector) → pos 0 <ℤ turn a b z → over (segment a b) z ≡ (is_right z a && not (is_right z b))
-over_pos a b z h = by (le_or_lt (a.x *ℤ z.w) (z.x *ℤ a.w)) (le_or_lt (b.x *ℤ z.w) (z.x *ℤ b.w))
-  where
-    shown : {x y : Bool} (p q : Bool) → x ≡ p → y ≡ q → (o : Bool) → o ≡ (p && not q) → o ≡ (x && not y)
-    shown p q e f o g = g ∙ ap₂ (λ p q. p && not q) (sym e) (sym f)
-
-    back : turn b a z <ℤ pos 0
-    back = omega (arith, linear, det_swapped a b z)
-
-    by : LeX a z ⊎ LtX z a → LeX b z ⊎ LtX z b → over (segment a b) z ≡ (is_right z a && not (is_right z b))
-    by (inl i) (inl j) = shown false false (lt_false i) (lt_false j) (over (segment a b) z) (over_past_both a b z i j)
-    by (inl i) (inr j) = shown false true (lt_false i) (lt_true j) (over (segment a b) z) (over_right_of_a a b z i j ∙ lt_false (le_of_lt h))
-    by (inr i) (inl j) = shown true false (lt_true i) (lt_false j) (over (segment a b) z) (over_reversed a b z ∙ over_right_of_a b a z j i ∙ lt_true back)
-    by (inr i) (inr j) = shown true true (lt_true i) (lt_true j) (over (segment a b) z) (over_before_both a b z i j)
-
-over_neg : (a b z : Vector) → turn a b z <ℤ pos 0 → over (segment a b) z ≡ (not (is_right z a) && is_right z b)
-over_neg a b z h = over_reversed a b z ∙ over_pos b a z (omega (arith, linear, det_swapped a b z)) ∙ turned (is_right z b) (is_right z a)
-  where
-    turned : (p q : Bool) → (p && not q) ≡ (not q && p)
-    turned true true = refl
-    turned true false = refl
-    turned false true = refl
-    turned false false = refl
-
-over_zero : (a b z : Vector) → turn a b z ≡ pos 0 → over (segment a b) z ≡ false
-over_zero a b z e = by (le_or_lt (a.x *ℤ z.w) (z.x *ℤ a.w)) (le_or_lt (b.x *ℤ z.w) (z.x *ℤ b.w))
-  where
-    here : pos 0 ≤ℤ turn a b z
-    here = omega (arith, linear)
-
-    back : pos 0 ≤ℤ turn b a z
-    back = omega (arith, linear, det_swapped a b z)
-
-    by : LeX a z ⊎ LtX z a → LeX b z ⊎ LtX z b → over (segment a b) z ≡ false
-    by (inl i) (inl j) = over_past_both a b z i j
-    by (inl i) (inr j) = over_right_of_a a b z i j ∙ lt_false here
-    by (inr i) (inl j) = over_reversed a b z ∙ over_right_of_a b a z j i ∙ lt_false back
-    by (inr i) (inr j) = over_before_both a b z i j
-
--- ---- what the three sides and the places of the corners have to do with each other
-moments : (a b c z : Vector) → turn b c z *ℤ right z a +ℤ turn c a z *ℤ right z b +ℤ turn a b z *ℤ right z c ≡ pos 0
-moments a b c z = ring (env [] (a ∷ b ∷ c ∷ z ∷ [])) (F.det B C D ⊗ formal_right D A ⊕ F.det C A D ⊗ formal_right D B ⊕ F.det A B D ⊗ formal_right D C) F.zero tt
-
-weights : (a b c z : Vector) → turn b c z *ℤ a.w +ℤ turn c a z *ℤ b.w +ℤ turn a b z *ℤ c.w ≡ turn a b c *ℤ z.w
-weights a b c z = ring (env [] (a ∷ b ∷ c ∷ z ∷ [])) (F.det B C D ⊗ A.w ⊕ F.det C A D ⊗ B.w ⊕ F.det A B D ⊗ C.w) (F.det A B C ⊗ D.w) tt
-
-flat : (a b c z : Vector) → IsPoint z → right z a ≡ pos 0 → right z b ≡ pos 0 → right z c ≡ pos 0 → turn a b c ≡ pos 0
-flat a b c z hz ra rb rc = eq_from (env [] (a ∷ b ∷ c ∷ z ∷ [])) D.w ((F.cross B C).x ⊗ formal_right D A ⊕ (F.cross C A).x ⊗ formal_right D B ⊕ (F.cross A B).x ⊗ formal_right D C) (F.det A B C) F.zero tt hz (search zeros)
-
-is_pos : (z a : Vector) → is_right z a ≡ true → pos 0 <ℤ right z a
-is_pos z a e = let h = lt_from_true (z.x *ℤ a.w) (a.x *ℤ z.w) e in omega (arith, linear)
-
-is_nonpos : (z a : Vector) → is_right z a ≡ false → right z a ≤ℤ pos 0
-is_nonpos z a e = let h = le_from_false (z.x *ℤ a.w) (a.x *ℤ z.w) e in omega (arith, linear)
+use Rattle.plan_plane.proofs.Segment.Line.{right}
+use Rattle.plan_poly.proofs.EvenOdd.Side.{is_right, over_pos, moments, flat, is_pos, is_nonpos, over_neg, over_zero, weights}
 
 -- ---- strictly inside: odd
-
 pub odd_inside : (a b c z : Vector) → IsPoint z → pos 0 <ℤ turn a b c → pos 0 <ℤ turn b c z → pos 0 <ℤ turn c a z → pos 0 <ℤ turn a b z → parity (edges (a ∷ b ∷ c ∷ [])) z ≡ true
 odd_inside a b c z hz left ta tb tc =
     ap₂ xor (over_pos a b z tc) (ap₂ xor (over_pos b c z ta) (ap (λ t. xor t false) (over_pos c a z tb)))

@@ -1,54 +1,18 @@
 -- A polygon that is simple by the numbers of its edges is a loop, and the other way round.
-use Rattle.std.proofs.Common.{ℕ, ◌<◌, List, length, get_or, sym, subst, ◌≡◌, suc, ◌-◌, arith, ◌⊎◌, inl, inr, ◌≤◌, All, eq-or-lt_of_le, zero, refl, [], ◌∷◌}
+use Rattle.std.proofs.Common.{ℕ, ◌<◌, List, length, get_or, ◌-◌, arith, inl, ◌≡◌, suc, inr, sym, subst, ◌⊎◌, ◌≤◌, All, eq-or-lt_of_le, zero, refl, [], ◌∷◌}
 use Rattle.std.proofs.lemmas.List.{get_or_default}
 use Rattle.std.proofs.lemmas.List.Elements.{All-nil, All-cons, All-head, All-tail}
-use Rattle.std.proofs.lemmas.Option.{slice_get-get_or}
-use Rattle.std.specs.Prelude.{slice_get, IsSomeAnd}
 use Rattle.plan_spec.specs.Polygon.{edges}
 use Rattle.plan_spec.specs.Segment.{segment, On, Segment}
 use Rattle.plan_spec.specs.SimplePolygon.{IsSharedVertex, IsSimple, AreThreeEqual, MeetWrongly}
 use Rattle.plan_spec.specs.Vector.{Vector, IsPoint, Same}
 use Rattle.plan_plane.proofs.Pairs.{Pairs, pairs_from, pairs_at}
-use Rattle.plan_plane.proofs.Polygon.Edges.{ends_of_edges}
-use Rattle.plan_plane.proofs.Segment.Between.{on, between_first, between_second}
-use Rattle.plan_plane.proofs.Segment.Same.{on_same, Same-swapped, Same-trans}
-use Rattle.plan_plane.proofs.Segment.Whether.{same_or_not}
-use Rattle.plan_poly.proofs.Loop.Loop.{IsEnd, MeetRight, Differ, Loop}
 use Rattle.plan_plane.proofs.Polygon.Numbered.{length_edges, edge_next, edge_last}
-
-pub some_in : {X : Type 0} (P : X → Type 0) (xs : List X) (i : ℕ) (d : X) → i < length xs → P (get_or xs i d) → IsSomeAnd (slice_get xs i) P
-some_in P xs i d within h = subst (λ o. IsSomeAnd o P) (sym (slice_get-get_or xs i d within)) h
-
-pub some_out : {X : Type 0} (P : X → Type 0) (xs : List X) (i : ℕ) (d : X) → i < length xs → IsSomeAnd (slice_get xs i) P → P (get_or xs i d)
-some_out P xs i d within h = subst (λ o. IsSomeAnd o P) (slice_get-get_or xs i d within) h
-
--- ---- the edge numbered i
--- it starts at the vertex i
-starts : (vs : List Vector) (i : ℕ) (d : Vector) → All IsPoint vs → i < length vs → On (get_or (edges vs) i (segment d d)) (get_or vs i d)
-starts vs i d h within = by (eq-or-lt_of_le (more within))
-  where
-    more : i < length vs → suc i ≤ length vs
-    more w = omega arith
-
-    by : (suc i ≡ length vs) ⊎ (suc i < length vs) → On (get_or (edges vs) i (segment d d)) (get_or vs i d)
-    by (inl e) = subst (λ s. On s (get_or vs i d)) (sym (edge_last vs i (segment d d) d e)) (on (between_first (get_or vs i d) (get_or vs 0 d) (h i d within)))
-    by (inr l) = subst (λ s. On s (get_or vs i d)) (sym (edge_next vs i (segment d d) d l)) (on (between_first (get_or vs i d) (get_or vs (suc i) d) (h i d within)))
-
-ends_next : (vs : List Vector) (i : ℕ) (d : Vector) → All IsPoint vs → suc i < length vs → On (get_or (edges vs) i (segment d d)) (get_or vs (suc i) d)
-ends_next vs i d h l = subst (λ s. On s (get_or vs (suc i) d)) (sym (edge_next vs i (segment d d) d l)) (on (between_second (get_or vs i d) (get_or vs (suc i) d) (h (suc i) d l)))
-
-ends_last : (vs : List Vector) (i : ℕ) (d : Vector) → All IsPoint vs → suc i ≡ length vs → On (get_or (edges vs) i (segment d d)) (get_or vs 0 d)
-ends_last vs i d h e = subst (λ s. On s (get_or vs 0 d)) (sym (edge_last vs i (segment d d) d e)) (on (between_second (get_or vs i d) (get_or vs 0 d) (h 0 d (omega (arith, e)))))
-
-start_end : (vs : List Vector) (i : ℕ) (d z : Vector) → i < length vs → Same z (get_or vs i d) → IsEnd (get_or (edges vs) i (segment d d)) z
-start_end vs i d z within e = by (eq-or-lt_of_le (more within))
-  where
-    more : i < length vs → suc i ≤ length vs
-    more w = omega arith
-
-    by : (suc i ≡ length vs) ⊎ (suc i < length vs) → IsEnd (get_or (edges vs) i (segment d d)) z
-    by (inl f) = subst (λ s. IsEnd s z) (sym (edge_last vs i (segment d d) d f)) (inl e)
-    by (inr l) = subst (λ s. IsEnd s z) (sym (edge_next vs i (segment d d) d l)) (inl e)
+use Rattle.plan_plane.proofs.Segment.Between.{on, between_first, between_second}
+use Rattle.plan_plane.proofs.Segment.Same.{Same-swapped, on_same, Same-trans}
+use Rattle.plan_plane.proofs.Segment.Whether.{same_or_not}
+use Rattle.plan_poly.proofs.Loop.Edges.{some_in, some_out, start_end, starts, ends_next, ends_last, moved_on}
+use Rattle.plan_poly.proofs.Loop.Loop.{IsEnd, MeetRight, Differ, Loop}
 
 -- ---- what is not shared is wrong
 wrong : (vs : List Vector) → IsSimple vs → (i j : ℕ) (d z : Vector) → i < j → j < length vs → IsPoint z → On (get_or (edges vs) i (segment d d)) z → On (get_or (edges vs) j (segment d d)) z → ¬ (IsSharedVertex vs i j z) → ⊥
@@ -103,13 +67,6 @@ meet vs long points simple d i j less within z hz oi oj = by (eq-or-lt_of_le (mo
     by : (suc i ≡ j) ⊎ (suc i < j) → IsEnd (get_or (edges vs) i (segment d d)) z × IsEnd (get_or (edges vs) j (segment d d)) z
     by (inl e) = here e (same_or_not z (get_or vs j d))
     by (inr far) = first_last far (zero_or i) (eq-or-lt_of_le (more within))
-
--- ---- vertices differ
-moved_on : (vs : List Vector) (i : ℕ) (d z u : Vector) → All IsPoint vs → i < length vs → IsPoint z → IsPoint u → Same z u → On (get_or (edges vs) i (segment d d)) z → On (get_or (edges vs) i (segment d d)) u
-moved_on vs i d z u h within hz hu e o =
-    let p = ends_of_edges IsPoint vs h i (segment d d) (omega (arith, within, length_edges vs)) in
-    let s = get_or (edges vs) i (segment d d) in
-    on_same s.a s.b z u p.0 p.1 hz hu e o
 
 -- four vertices or more
 differ_long : (vs : List Vector) → 4 ≤ length vs → All IsPoint vs → IsSimple vs → (d : Vector) (i j : ℕ) → i < j → j < length vs → Differ (get_or vs i d) (get_or vs j d)

@@ -9,7 +9,7 @@ use Rattle.plan_spec.specs.SimplePolygon.{OnEdge, IsVertex, IsSharedVertex, Shar
 use Rattle.plan_plane.proofs.Polygon.Numbered.{edge_at, edge_next, edge_last}
 use Rattle.plan_plane.proofs.Segment.Reversed.{on_reversed}
 use Rattle.plan_poly.specs.Edge.{FoldsBack}
-use Rattle.plan_poly.proofs.Loop.Simple.{some_in, some_out}
+use Rattle.plan_poly.proofs.Loop.Edges.{some_in, some_out}
 use Rattle.plan_poly.proofs.Meets.Shares.{neighbours}
 
 on_edge : (vs : List Vector) (i : ℕ) (s : Segment) (z : Vector) → slice_get (edges vs) i ≡ Some s → OnEdge vs i z ↔ On s z

@@ -22,7 +22,9 @@ use Rattle.plan_poly.proofs.Loop.Loop.{Differ, meet_reversed}
 use Rattle.plan_tri.proofs.Cut.Cutting.{second, AtCut, x_point, after_x, before_x, far, corner_of, list_is, path_clean}
 use Rattle.plan_tri.proofs.Cut.Diagonal.{diagonal}
 use Rattle.plan_tri.proofs.Cut.Even.{even}
-use Rattle.plan_tri.proofs.Cut.Fits.{loop_two, second_meets_one, off_one, second_points, points_one, second_outside, zero_at_x, points_at, clear_one, right_all, steep, points_two, first_outside, clear_two}
+use Rattle.plan_tri.proofs.Cut.Loops.{loop_two, zero_at_x, points_at}
+use Rattle.plan_tri.proofs.Cut.OutOfWay.{second_meets_one, off_one, clear_one, right_all, steep, clear_two}
+use Rattle.plan_tri.proofs.Cut.VerticesOutside.{second_points, points_one, second_outside, points_two, first_outside}
 use Rattle.plan_tri.proofs.Cut.Halves.{Halves, Whole, OutOfWays}
 use Rattle.plan_tri.proofs.Cut.Outside.{OneOf, strand_edges, OutOf, OutVertex, AnyVertex, edge_out, edge_out_reversed}
 use Rattle.plan_tri.proofs.Ear.Ear.{nonpos}

@@ -26,7 +26,8 @@ use Rattle.plan_poly.proofs.FromLeast.Ready.{Ready, to_list}
 use Rattle.plan_poly.proofs.Loop.Backwards.{reversed_is, reversed}
 use Rattle.plan_poly.proofs.Loop.Corner.{Points, points_of, AtCorner}
 use Rattle.plan_poly.proofs.Loop.Straight.{not_straight}
-use Rattle.plan_tri.proofs.Ear.Ear.{AtEar, rest_even, rest_off}
+use Rattle.plan_tri.proofs.Ear.Ear.{AtEar}
+use Rattle.plan_tri.proofs.Ear.Rest.{rest_even, rest_off}
 use Rattle.plan_tri.proofs.Region.Third.{Third, third}
 use Rattle.plan_tri.proofs.Region.Triangulated.{HasSide, Triangulated}
 

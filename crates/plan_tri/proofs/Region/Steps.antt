@@ -24,9 +24,11 @@ use Rattle.plan_poly.proofs.FromLeast.ByPlace.{from_least_is}
 use Rattle.plan_poly.proofs.Loop.Corner.{AtCorner, points_of}
 use Rattle.plan_poly.proofs.Loop.Parts.{rotated}
 use Rattle.plan_tri.proofs.Cut.Cutting.{AtCut, second, after_x, before_x, Farther}
-use Rattle.plan_tri.proofs.Cut.Fits.{loop_one, loop_two}
+use Rattle.plan_tri.proofs.Cut.Loops.{loop_one, loop_two}
 use Rattle.plan_tri.proofs.Cut.Together.{cut}
-use Rattle.plan_tri.proofs.Ear.Ear.{InTriangle, AtEar, ear_fit, rest_loop}
+use Rattle.plan_tri.proofs.Ear.Ear.{InTriangle, AtEar}
+use Rattle.plan_tri.proofs.Ear.Fits.{ear_fit}
+use Rattle.plan_tri.proofs.Ear.Rest.{rest_loop}
 use Rattle.plan_tri.proofs.Ear.RestTurns.{Smaller, rest_turns}
 use Rattle.plan_tri.proofs.Region.Parts.{of_parts}
 use Rattle.plan_tri.proofs.Region.Triangulated.{HasSide, Triangulated, triangles_turned}
