@@ -1,7 +1,7 @@
 -- What a sum covers of an edge, and what the sums so far cover: one sum more covers what it covers itself.
-use Rattle.std.proofs.Common.{◌≡◌, ◌↔◌, ◌⊎◌, inl, inr, ⊎_elim, ℕ, suc, ◌+◌, ◌*◌, ◌<◌, ◌≤◌, pos, ◌*ℤ◌, ◌<ℤ◌, Bool, false, ◌||◌, Decides, List, [], ◌∷◌, ◌++◌, length, get_or, All, Any, sym, ◌∙◌, subst, eq-or-lt_of_le, arith}
+use Rattle.std.proofs.Common.{◌≡◌, ◌↔◌, ◌⊎◌, inl, inr, ⊎_elim, ℕ, suc, ◌+◌, ◌*◌, ◌<◌, ◌≤◌, pos, ◌*ℤ◌, ◌<ℤ◌, Bool, ◌||◌, Decides, List, [], ◌∷◌, ◌++◌, length, get_or, All, Any, sym, ◌∙◌, subst, eq-or-lt_of_le, arith}
 use Rattle.std.proofs.lemmas.Int.{ints}
-use Rattle.std.proofs.lemmas.List.Elements.{All-nil, All-push, All-weaker}
+use Rattle.std.proofs.lemmas.List.Elements.{All-push, All-weaker}
 use Rattle.std.proofs.lemmas.Bool.Decides.{Decides-like, Decides-or}
 use Rattle.std.proofs.lemmas.List.{length-map, get_or-map}
 use Rattle.plan_exact.specs.Vectors.{Vector}
@@ -83,15 +83,6 @@ pub record CoverSoFar (sums : List (List Spot)) (a b : Vector) (i : ℕ) (parts 
   pub exact : (z : Weights) → IsInner z → OneOf sums i (λ vs. StrictlyInside vs (weighted a b z)) ↔ Any (λ p. InOpen p (fraction_at z)) parts
   pub covers_first : Decides first (OneOf sums i (λ vs. StrictlyInside vs a))
   pub covers_last : Decides last (OneOf sums i (λ vs. StrictlyInside vs b))
-
-pub none_so_far : (sums : List (List Spot)) (a b : Vector) → CoverSoFar sums a b 0 [] false false
-none_so_far sums a b = record {
-  shares = All-nil (λ p. IsShare p.from × IsShare p.to);
-  proper = All-nil IsOpenPart;
-  exact = λ z i. (λ h. absurd (one_of_none sums (λ vs. StrictlyInside vs (weighted a b z)) h), λ h. absurd (any_none (λ p. InOpen p (fraction_at z)) h));
-  covers_first = (λ e. absurd (cc), λ h. absurd (one_of_none sums (λ vs. StrictlyInside vs a) h));
-  covers_last = (λ e. absurd (cc), λ h. absurd (one_of_none sums (λ vs. StrictlyInside vs b) h));
-}
 
 -- a sum that covers nothing
 still : (sums : List (List Spot)) (i : ℕ) (P : List Vector → Type 0) → ¬ (P (spots_seen (get_or sums i []))) → OneOf sums i P ↔ OneOf sums (i + 1) P

@@ -74,7 +74,8 @@ fn kept(
     requires b_bounded { IsWithin MOST_COORDINATE b }
     requires onward { Before (spot_seen a) (spot_seen b) }
     requires rising { All (λ g. AtMost g.from g.to) gaps.now }
-    ensures { IfOk result (λ v. AllZip (IsPieceOf edge (spot_seen a) (spot_seen b)) (filter (stays first last) gaps.now) v.items) }
+    ensures { IfOk result
+        (λ v. AllZip (IsPieceOf edge (spot_seen a) (spot_seen b)) (filter (stays first last) gaps.now) v.items) }
 {
     let mut found = Vec::new(alloc);
     for gap in gaps {

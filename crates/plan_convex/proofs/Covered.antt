@@ -1,6 +1,6 @@
 -- What a polygon covers of an edge, edge by edge of the polygon: the sides of it passed so far leave a part, and each narrows the part by where its own value is positive.
-use Rattle.std.proofs.Common.{◌≡◌, ◌↔◌, ℕ, ◌+◌, ◌<◌, ◌≤◌, ◌+ℤ◌, List, length, Some, None, sym, subst, arith, below_more}
-use Rattle.plan_exact.proofs.Laws.{linear, zero_mul, one_mul}
+use Rattle.std.proofs.Common.{◌≡◌, ◌↔◌, ℕ, ◌+◌, ◌<◌, ◌≤◌, List, length, Some, None, sym, subst, arith, below_more}
+use Rattle.plan_exact.proofs.Laws.{linear}
 use Rattle.plan_exact.proofs.Vectors.{det_combination_3}
 use Rattle.plan_spec.specs.Vector.{Vector, turn}
 use Rattle.plan_spec.specs.Boundary.{IsLeft, StrictlyInside}
@@ -9,7 +9,7 @@ use Rattle.plan_grid.specs.declared.spot.Spot.{Spot}
 use Rattle.plan_convex.specs.declared.part.Part.{Part}
 use Rattle.plan_grid.specs.Spot.{spots_seen}
 use Rattle.plan_convex.specs.Parameter.{fraction_at}
-use Rattle.plan_convex.specs.Part.{InOpen, whole, value_at, IsWherePositive}
+use Rattle.plan_convex.specs.Part.{InOpen, value_at, IsWherePositive}
 use Rattle.plan_convex.proofs.Edges.{edge_at, get_or-edges, length-edges}
 
 value_is : (a b p q : Vector) (z : Weights) → turn p q (weighted a b z) ≡ value_at (turn p q a) (turn p q b) z
@@ -27,9 +27,6 @@ left_of_each vs z k h inside = let d = edge_at vs k in subst (IsLeft z) (get_or-
 -- the part is what the first edges leave
 abbrev pub Leaves : Vector → Vector → List Spot → ℕ → Part → Type 0
 Leaves a b vs i p = (z : Weights) → IsInner z → ((k : ℕ) → k < i → IsLeft (weighted a b z) (edge_at vs k)) ↔ InOpen p (fraction_at z)
-
-pub leaves_whole : (a b : Vector) (vs : List Spot) → Leaves a b vs 0 whole
-leaves_whole a b vs z i = (λ h. let s = i.0 in let t = i.1 in (omega (arith, linear, zero_mul (z.s +ℤ z.t)), omega (arith, linear, one_mul (z.s +ℤ z.t))), λ m k h. absurd (omega arith))
 
 pub leaves_more : (a b : Vector) (vs : List Spot) (i : ℕ) (p q : Part) → Leaves a b vs i p → IsWherePositive p (turn (edge_at vs i).a (edge_at vs i).b a) (turn (edge_at vs i).a (edge_at vs i).b b) (Some q) → Leaves a b vs (i + 1) q
 leaves_more a b vs i p q h w z inner = (

@@ -2,7 +2,7 @@
 use Rattle.std.proofs.Math.Nat.{mod_self, mod-eq_of_lt, eq-or-lt_of_le}
 use Rattle.std.proofs.Common.{◌≡◌, ◌⊎◌, inl, inr, suc, sym, subst, add-one, ℕ, ◌%◌, ◌+◌, ◌-◌, ◌<◌, ◌≤◌, ◌∙◌, ap, List, ◌∷◌, ◌++◌, length, get_or, drop, append_assoc, arith}
 use Rattle.std.specs.List.{flat_map}
-use Rattle.std.proofs.lemmas.List.{length-append, get_or_append_left, get_or-append_right, at_drop_more, drop_all, get_or-map, length-map}
+use Rattle.std.proofs.lemmas.List.{length-append, get_or_append_left, get_or-append_right, at_drop_more, get_or-map, length-map}
 use Rattle.plan_spec.specs.Segment.{Segment}
 use Rattle.plan_spec.specs.Polygon.{edges, IsConvex}
 use Rattle.plan_spec.specs.Vector.{Same}
@@ -24,9 +24,6 @@ first_sum v rest room = append_assoc (edges (spots_seen v)) (flat_map edges (sum
 
 pub left_more : (sums : List (List Spot)) (i : ℕ) (room : Frame) (d : List Spot) → i < length sums → left_from sums i room ≡ edges (spots_seen (get_or sums i d)) ++ left_from sums (i + 1) room
 left_more sums i room d within = at_drop_more (λ l. boundary (sums_seen l) room) sums i d within ∙ first_sum (get_or sums i d) (drop (i + 1) sums) room
-
-pub left_none : (sums : List (List Spot)) (i : ℕ) (room : Frame) → length sums ≤ i → left_from sums i room ≡ sides room
-left_none sums i room past = ap (λ l. boundary (sums_seen l) room) (drop_all i sums past)
 
 pub length_more : (sums : List (List Spot)) (i : ℕ) (room : Frame) (d : List Spot) → i < length sums → length (left_from sums i room) ≡ length (get_or sums i d) + length (left_from sums (i + 1) room)
 length_more sums i room d within =

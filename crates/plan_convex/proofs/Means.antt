@@ -1,11 +1,11 @@
 -- The point of an edge at a parameter is a mean of its ends, so it is no farther than they are; and in lowest terms its weight divides the denominator.
-use Rattle.std.proofs.Common.{◌≡◌, ℕ, ◌+◌, ◌*◌, ◌<◌, ◌≤◌, ◌^◌, inl, inr, ℤ, pos, ◌+ℤ◌, ◌-ℤ◌, ◌*ℤ◌, ◌≤ℤ◌, ◌<ℤ◌, unsigned_abs, Option, Some, None, IsSome, IsNone, refl, subst, arith}
+use Rattle.std.proofs.Common.{◌≡◌, ℕ, ◌+◌, ◌*◌, ◌<◌, ◌≤◌, ◌^◌, ℤ, pos, ◌+ℤ◌, ◌-ℤ◌, ◌*ℤ◌, ◌≤ℤ◌, ◌<ℤ◌, unsigned_abs, subst, arith}
 use Rattle.std.proofs.lemmas.Int.{ints, unsigned_abs-mul}
 use Rattle.std.proofs.lemmas.Nat.Gcd.{le_of_dvd}
 use Rattle.plan_exact.proofs.Laws.{linear}
 use Rattle.plan_exact.proofs.Sizes.{product_at_most}
 use Rattle.plan_spec.specs.Vector.{Vector, Same}
-use Rattle.plan_grid.specs.Bounds.{IsBeyond, IsInRange}
+use Rattle.plan_grid.specs.Bounds.{IsInRange}
 use Rattle.plan_grid.proofs.Unique.{weight_divides}
 
 sum_size : (m n : ℤ) → unsigned_abs (m +ℤ n) ≤ unsigned_abs m + unsigned_abs n
@@ -22,16 +22,6 @@ mean_size d n a b h k ha hb =
 
 pub small_weight : (w : ℤ) → pos 0 <ℤ w → w <ℤ pos 33554432 → unsigned_abs w < 33554432
 small_weight w h k = omega (arith, ints)
-
-pub not_beyond : (x y w : ℤ) → pos 0 <ℤ w → w <ℤ pos 33554432 → unsigned_abs x ≤ 2046 * unsigned_abs w → unsigned_abs y ≤ 2046 * unsigned_abs w → ¬ (IsBeyond x y w)
-not_beyond x y w h k hx hy (inl b) = omega (arith, linear)
-not_beyond x y w h k hx hy (inr (inl b)) = omega (arith, ints)
-not_beyond x y w h k hx hy (inr (inr (inl b))) = omega (arith, b, hx)
-not_beyond x y w h k hx hy (inr (inr (inr b))) = omega (arith, b, hy)
-
-pub some_unless : {X : Type 0} (o : Option X) → ¬ (IsNone o) → IsSome o
-some_unless None h = absurd (h refl)
-some_unless (Some x) h = refl
 
 least_size : (w : ℤ) (n : ℕ) → pos 1 ≤ℤ w → unsigned_abs w ≤ n → n < 33554432 → w <ℤ pos 33554432
 least_size w n h k l = omega (arith, ints)

@@ -1,5 +1,5 @@
 -- Beside a point that is strictly inside a polygon, points are strictly inside, on the way to any other point.
-use Rattle.std.proofs.Common.{◌≡◌, inl, ℤ, pos, ◌≤ℤ◌, ◌<ℤ◌, List, [], ◌∷◌, get_or, sym, subst}
+use Rattle.std.proofs.Common.{inl, ℤ, pos, ◌≤ℤ◌, ◌<ℤ◌, List, [], ◌∷◌, get_or, subst}
 use Rattle.plan_exact.specs.Expr.{con}
 use Rattle.plan_exact.specs.Vectors.{cross, env}
 use Rattle.plan_spec.specs.Vector.{Vector}
@@ -8,8 +8,8 @@ use Rattle.plan_exact.specs.Formal.{A, B, J}
 use Rattle.plan_exact.proofs.RingVectors.{ring_vectors}
 use Rattle.plan_spec.specs.Polygon.{edges}
 use Rattle.plan_spec.specs.Boundary.{IsLeft, StrictlyInside}
-use Rattle.plan_spec.specs.Weights.{Weights, weighted}
-use Rattle.plan_plane.proofs.Near.{Near, step, near_pos, near_all}
+use Rattle.plan_spec.specs.Weights.{weighted}
+use Rattle.plan_plane.proofs.Near.{Near, near_pos, near_all}
 
 near_inside : (vs : List Vector) (z d : Vector) → StrictlyInside vs z → Near z d (StrictlyInside vs)
 near_inside vs z d h = near_all (λ s p. IsLeft p s) (edges vs) (λ k e within. let s = get_or (edges vs) k e in near_pos z d (cross s.a s.b) (inl (h k e within)))

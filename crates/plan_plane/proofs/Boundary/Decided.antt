@@ -1,8 +1,6 @@
 -- Whether a point is held, uncovered or clear is decided, since all tests are signs.
-use Rattle.std.proofs.Common.{◌⊎◌, inl, inr, ⊎_elim, ℤ, pos, ◌≤ℤ◌, List, [], ◌∷◌, All, arith}
+use Rattle.std.proofs.Common.{inl, inr, pos, List, [], ◌∷◌, All}
 use Rattle.std.proofs.lemmas.List.Elements.{All-nil, All-cons, All-head, All-tail}
-use Rattle.plan_exact.proofs.Laws.{linear}
-use Rattle.plan_exact.proofs.Signs.{le_or_lt}
 use Rattle.plan_spec.specs.Vector.{Vector, turn}
 use Rattle.plan_spec.specs.Polygon.{OnOrLeft, Inside, edges}
 use Rattle.plan_spec.specs.Frame.{Frame, OnOrBeyond}

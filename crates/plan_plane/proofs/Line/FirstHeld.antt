@@ -4,7 +4,7 @@ use Rattle.std.proofs.lemmas.List.Elements.{All-nil, All-cons, All-head, All-tai
 use Rattle.plan_exact.specs.Expr.{Expr, var, con, ◌⊕◌, ◌⊖◌, ◌⊗◌, neg}
 use Rattle.plan_exact.specs.Sign.{Sign, is_negative, is_zero, is_positive}
 use Rattle.plan_exact.proofs.Certificates.{lt_from, le_from, eq_from, absurd_by}
-use Rattle.plan_exact.proofs.Laws.{linear, mul_comm, one_mul, zero_mul}
+use Rattle.plan_exact.proofs.Laws.{linear, one_mul, zero_mul}
 use Rattle.plan_exact.proofs.Ring.{ring}
 use Rattle.plan_exact.proofs.Signs.{pos_of_pos_mul, sign_of, le_or_lt, signs, zeros, mul_nonneg, mul_pos, mul_pos_neg, le_of_lt, nonneg_of_mul, zero_of_mul_left}
 use Rattle.plan_plane.proofs.Lists.{any_here, any_there}
@@ -51,9 +51,6 @@ none = record { a = pos 0; b = pos 0 }
 
 positive_second : (u z : Weights) → IsWeights u → IsWeights z → Earlier u z → pos 0 <ℤ z.t
 positive_second u z hu hz e = pos_of_pos_mul z.t u.s hz.second (omega (arith, linear, e.less, mul_nonneg hu.second hz.first))
-
-positive_first : (u z : Weights) → IsWeights u → IsWeights z → Earlier u z → pos 0 <ℤ u.s
-positive_first u z hu hz e = pos_of_pos_mul u.s z.t hu.first (omega (arith, linear, e.less, mul_comm u.s z.t, mul_nonneg hu.second hz.first))
 
 -- y is not later than z
 record NotLater (y z : Weights) : Type 0 where
