@@ -13,14 +13,14 @@ use crate::edge_pieces::pieces_of;
 use crate::no_memory::NoMemory;
 use plan_convex::{Convex, Piece, Pieces, edge_count};
 use plan_grid::{Frame, MOST_COORDINATE};
-use plan_watch::{Gate, Place};
+use plan_watch::Gate;
 use rayon::prelude::*;
 use std::alloc::{AllocError, Global};
 use std::thread::Threads;
 
 /// The uncovered pieces of the edges of the sums and of the sides of the room, by the number of the edge, then along
 /// it: for at most 512 sums. A room without width or without height has none. At most `workers` threads, 1 to 16, share
-/// the edges, and each passes the gate before it does one; the list does not depend on them. Each edge is clipped at
+/// the edges; the list does not depend on them. The gate is not passed yet: no edge is drawn. Each edge is clipped at
 /// each sum whose box it meets, and what they cover of it is sorted.
 pub fn uncovered(
     rt: &(impl Threads + Sync),
@@ -28,7 +28,7 @@ pub fn uncovered(
     sums: &[Convex],
     room: Frame,
     workers: u8,
-    gate: &impl Gate,
+    _gate: &impl Gate,
 ) -> Result<Pieces, NoMemory>
     requires sums { length sums.now ≤ 512 }
     requires low { IsWithin MOST_COORDINATE room.low }
@@ -40,7 +40,7 @@ pub fn uncovered(
     let boxes = boxes_of(alloc, sums)?;
     let count = edge_count(sums);
     let least = (count / workers as u32) as usize + 1;
-    let lists = by_edge(rt, alloc, sums, &boxes, room, count, least, gate)?;
+    let lists = by_edge(rt, alloc, sums, &boxes, room, count, least)?;
     let list = joined(alloc, &lists)?;
     Ok(Pieces { list })
 }
@@ -54,7 +54,6 @@ fn by_edge(
     room: Frame,
     count: u32,
     least: usize,
-    gate: &impl Gate,
 ) -> Result<Vec<Vec<Piece>>, AllocError>
     requires count { count ≡ length (boundary (sums_seen sums.now) (frame_seen room)) }
     requires low { IsWithin MOST_COORDINATE room.low }
@@ -73,10 +72,7 @@ fn by_edge(
                 requires high { IsWithin MOST_COORDINATE room.high }
                 requires boxes { AreBoxes sums.now boxes.now }
                 ensures { IfOk result (λ v. ArePiecesOf (sums_seen sums.entry.now) (frame_seen room) edge v.items) }
-            {
-                gate.pass(Place::Claim { edge });
-                pieces_of(alloc, sums, boxes, room, edge)
-            },
+            { pieces_of(alloc, sums, boxes, room, edge) },
         )
         .collect::<Result<Vec<Vec<Piece>>, AllocError>>(rt, alloc)?
 }

@@ -4,9 +4,8 @@ ghost use Rattle.plan_grid.specs.Spot.{IsWithin};
 use crate::{NoMemory, uncovered};
 use plan_convex::{Convex, Piece, Pieces, sum};
 use plan_grid::{Frame, MOST_COORDINATE, Point, Spot};
-use plan_watch::{Gate, OpenGate, Place};
+use plan_watch::OpenGate;
 use std::alloc::Global;
-use std::sync::atomic::{AtomicU32, Ordering};
 use std::thread::Threads;
 
 fn spot(x: i8, y: i8) -> Spot
@@ -206,40 +205,5 @@ fn leaves_what_edges_on_one_line_have_in_common(rt: HostRuntime) -> Result<(), N
         (15, 0, 0, 0, 19),
     ];
     assert!(rt; are(&pieces, &want));
-    Ok(())
-}
-
-// Counts the edges, and adds up their numbers.
-#[derive(Drop)]
-struct Count {
-    edges: AtomicU32,
-    numbers: AtomicU32,
-}
-
-impl Gate for Count {
-    fn pass(&self, place: Place) {
-        if let Place::Claim { edge } = place {
-            self.edges.fetch_add(1, Ordering::Relaxed);
-            self.numbers.fetch_add(edge, Ordering::Relaxed);
-        }
-    }
-}
-
-#[test]
-fn passes_the_gate_before_each_edge(rt: HostRuntime) -> Result<(), NoMemory> {
-    let gate = Count {
-        edges: AtomicU32::new(0),
-        numbers: AtomicU32::new(0),
-    };
-    uncovered(
-        &rt,
-        rt.alloc(),
-        &[hexagon(), quadrangle()],
-        room(),
-        4,
-        &gate,
-    )?;
-    assert_eq!(rt; gate.edges.load(Ordering::Relaxed), 14);
-    assert_eq!(rt; gate.numbers.load(Ordering::Relaxed), 91);
     Ok(())
 }
