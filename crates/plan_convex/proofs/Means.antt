@@ -26,7 +26,7 @@ small_weight w h k = omega (arith, ints)
 least_size : (w : ℤ) (n : ℕ) → pos 1 ≤ℤ w → unsigned_abs w ≤ n → n < 33554432 → w <ℤ pos 33554432
 least_size w n h k l = omega (arith, ints)
 
-positive_size : (w : ℤ) → pos 0 <ℤ w → 0 < unsigned_abs w
+pub positive_size : (w : ℤ) → pos 0 <ℤ w → 0 < unsigned_abs w
 positive_size w h = omega (arith, ints)
 
 pub weight_bounded : (p q : Vector) → IsInRange p → Same p q → pos 0 <ℤ q.w → q.w <ℤ pos 33554432 → p.w <ℤ pos 33554432

@@ -10,6 +10,7 @@ use Rattle.plan_exact.proofs.Signs.{mul_nonneg, mul_le_mul, nonneg_of_mul, le_of
 use Rattle.plan_grid.specs.Fraction.{Fraction, SameValue, IsRatio}
 use Rattle.plan_grid.proofs.Unique.{den_divides}
 use Rattle.plan_convex.specs.Parameter.{IsParameter}
+use Rattle.plan_convex.proofs.Means.{positive_size}
 
 pub record InTerms (r : Fraction) : Type 0 where
   pub nonneg : pos 0 ≤ℤ r.num
@@ -19,9 +20,6 @@ pub record InTerms (r : Fraction) : Type 0 where
 
 small : (d m : ℤ) → pos 0 <ℤ d → pos 0 <ℤ m → unsigned_abs d ≤ unsigned_abs m → d ≤ℤ m
 small d m hd hm h = omega (arith, ints)
-
-large : (m : ℤ) → pos 0 <ℤ m → 0 < unsigned_abs m
-large m h = omega (arith, ints)
 
 pub in_terms : (r p : Fraction) → IsRatio r → SameValue r p → IsParameter p → InTerms r
 in_terms r p hr same hp =
@@ -33,7 +31,7 @@ in_terms r p hr same hp =
       nonneg = nonneg_of_mul pd (omega (arith, linear, n, same, mul_comm p.den r.num));
       upto = le_of_mul r.num r.den p.den pd (omega (arith, linear, u, same, mul_comm p.den r.den));
       positive = rd;
-      bounded = let s = small r.den p.den rd pd (le_of_dvd (large p.den pd) (den_divides r p hr same)) in omega (arith, linear, s, hp.bounded);
+      bounded = let s = small r.den p.den rd pd (le_of_dvd (positive_size p.den pd) (den_divides r p hr same)) in omega (arith, linear, s, hp.bounded);
     }
 
 -- ---- the two numbers, as the code has them

@@ -151,6 +151,7 @@ impl Parameter {
         point(mean(self, a.x, b.x), mean(self, a.y, b.y), self.den)
     }
 
+    /// The numerator.
     pub fn num(self) -> Whole
         ensures value { result ≡ self.num }
         ensures in_range { IsParameter self }
@@ -158,6 +159,7 @@ impl Parameter {
         self.num
     }
 
+    /// The denominator, which is positive.
     pub fn den(self) -> Whole
         ensures value { result ≡ self.den }
         ensures in_range { IsParameter self }
@@ -165,6 +167,7 @@ impl Parameter {
         self.den
     }
 
+    /// Whether it is at most the other, by value.
     pub fn is_at_most(self, other: Parameter) -> bool
         ensures value { result ≡ at_most self other }
         ensures in_range { IsParameter self }

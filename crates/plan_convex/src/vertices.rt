@@ -22,6 +22,7 @@ impl Model for Vertices {
 }
 
 impl Vertices {
+    /// None.
     pub fn new() -> Self
         ensures { result ≡ [] }
     {
@@ -31,6 +32,7 @@ impl Vertices {
         }
     }
 
+    /// One more, behind the others; there must be fewer than six.
     pub fn push(&mut self, spot: Spot)
         requires { length self.old < 6 }
         ensures { self.new ≡ self.old ++ spot ∷ [] }
@@ -39,6 +41,7 @@ impl Vertices {
         self.count += 1;
     }
 
+    /// All of them, in order.
     pub fn as_slice(&self) -> &[Spot]
         ensures { result.now ≡ self.now }
     {

@@ -20,7 +20,7 @@ pub struct Walk {
 }
 
 impl Walk {
-    // From the least corner of a counterclockwise triangle on.
+    /// From the least corner of a counterclockwise triangle on.
     pub fn from_least(triangle: [Spot; 3]) -> Walk
         requires { IsCounterclockwise triangle }
         ensures start { IsStart result }
@@ -35,7 +35,7 @@ impl Walk {
         }
     }
 
-    // On to the next corner.
+    /// On to the next corner.
     pub fn onward(self) -> Walk
         requires { 0 < self.edges_left }
         ensures { IsOnward self result }
@@ -48,7 +48,7 @@ impl Walk {
         }
     }
 
-    // The direction of the edge ahead.
+    /// The direction of the edge ahead.
     pub fn edge(self) -> Spot
         requires at_bounded { IsWithin MOST_CORNER self.at }
         requires next_bounded { IsWithin MOST_CORNER self.next }
@@ -69,7 +69,7 @@ fn bend(a: Walk, b: Walk) -> Ordering
     orientation(ORIGIN, a.edge(), b.edge())
 }
 
-// On along the edge that turns less to the left, or along both where they have one direction.
+/// On along the edge that turns less to the left, or along both where they have one direction.
 pub fn step(a: Walk, b: Walk) -> (Walk, Walk)
     requires a_at { IsWithin MOST_CORNER a.at }
     requires a_next { IsWithin MOST_CORNER a.next }

@@ -36,12 +36,6 @@ counterclockwise_from a b c left bounded = record {
 }
 
 -- ---- the direction of the corners
-pub left_as_given : (s : List Spot) → IsTriangle s → pos 0 ≤ℤ turn (spot_seen (corner s 0)) (spot_seen (corner s 1)) (spot_seen (corner s 2)) → IsCounterclockwise (corner s 0 ∷ corner s 1 ∷ corner s 2 ∷ [])
-left_as_given s h left =
-    let t = subst IsTriangle (three_corners s h.three) h in
-    let apart = t.not_flat in
-    record { triangle = t; left = omega (arith, linear) }
-
 pub left_turned : (s : List Spot) → IsTriangle s → turn (spot_seen (corner s 0)) (spot_seen (corner s 1)) (spot_seen (corner s 2)) <ℤ pos 0 → IsCounterclockwise (corner s 0 ∷ corner s 2 ∷ corner s 1 ∷ [])
 left_turned s h right =
     let t = subst IsTriangle (three_corners s h.three) h in
@@ -84,9 +78,6 @@ from_least_of a b c ab ac =
 module _ (s : List Spot) (h : IsTriangle s) where
   triangle : IsTriangle (corner s 0 ∷ corner s 1 ∷ corner s 2 ∷ [])
   triangle = subst IsTriangle (three_corners s h.three) h
-
-  pub least_first : Before (spot_seen (corner s 0)) (spot_seen (corner s 1)) × Before (spot_seen (corner s 0)) (spot_seen (corner s 2)) → IsFromLeast (spots_seen (corner s 0 ∷ corner s 1 ∷ corner s 2 ∷ []))
-  least_first first = from_least_of (corner s 0) (corner s 1) (corner s 2) first.0 first.1
 
   -- where the first is not the least, the lesser of the other two is
   pub least_second : ¬ (Before (spot_seen (corner s 0)) (spot_seen (corner s 1)) × Before (spot_seen (corner s 0)) (spot_seen (corner s 2))) → Before (spot_seen (corner s 1)) (spot_seen (corner s 2)) → IsFromLeast (spots_seen (corner s 1 ∷ corner s 2 ∷ corner s 0 ∷ []))

@@ -60,13 +60,6 @@ equal_from_same p q p_weight q_weight p_lowest q_lowest same =
 pub equal_points : (p q : Vector) → IsInRange p → IsInRange q → Same p q → p ≡ q
 equal_points p q h k same = equal_from_same p q h.weight k.weight h.lowest k.lowest same
 
--- fractions in lowest terms of one value are equal
-pub equal_ratios : (p q : Fraction) → IsRatio p → IsRatio q → SameValue p q → p ≡ q
-equal_ratios p q h k same =
-    let flat : Same (on_axis p) (on_axis q) = (same, zero_mul q.den ∙ sym (zero_mul p.den)) in
-    let e = equal_from_same (on_axis p) (on_axis q) h.positive k.positive (λ d n z m. h.lowest d n m) (λ d n z m. k.lowest d n m) flat in
-    ap (λ (v : Vector). record { num = v.x; den = v.w }) e
-
 -- the denominator in lowest terms divides that of each fraction of that value
 pub den_divides : (p q : Fraction) → IsRatio p → SameValue p q → unsigned_abs p.den ∣ unsigned_abs q.den
 den_divides p q h same = weight_divides (on_axis p) (on_axis q) (λ d n z m. h.lowest d n m) (same, zero_mul q.den ∙ sym (zero_mul p.den))

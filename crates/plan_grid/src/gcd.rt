@@ -3,7 +3,7 @@ ghost use Rattle.std.specs.Int.{IsGcd, ◌∣◌};
 ghost use Rattle.plan_grid.specs.Bounds.{IsDivisor};
 ghost use Rattle.plan_grid.specs.Fraction.{IsLcm};
 
-// The greatest common divisor, by Euclid's algorithm.
+/// The greatest common divisor, by Euclid's algorithm.
 pub fn gcd(a: u64, b: u64) -> u64
     ensures { IsGcd a b result }
 {
@@ -17,7 +17,7 @@ pub fn gcd(a: u64, b: u64) -> u64
     x
 }
 
-// The greatest number that divides all three, where `w` is positive.
+/// The greatest number that divides all three, where `w` is positive.
 pub fn divisor(x: i64, y: i64, w: i64) -> u64
     requires { pos 1 ≤ℤ w }
     ensures { IsDivisor (record { x = x; y = y; w = w }) result }
@@ -25,7 +25,7 @@ pub fn divisor(x: i64, y: i64, w: i64) -> u64
     gcd(gcd(x.unsigned_abs(), y.unsigned_abs()), w.unsigned_abs())
 }
 
-// `a / d`, where `d` divides `a`.
+/// `a / d`, where `d` divides `a`.
 pub fn quotient(a: i64, d: u64) -> i64
     requires d_positive { 0 < d }
     requires d_bounded { d < 2 ^ 63 }
@@ -35,7 +35,7 @@ pub fn quotient(a: i64, d: u64) -> i64
     a / (d as i64)
 }
 
-// The least common multiple.
+/// The least common multiple.
 pub fn lcm(a: u64, b: u64) -> u64
     requires a_positive { 0 < a }
     requires b_positive { 0 < b }
