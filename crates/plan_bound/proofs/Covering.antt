@@ -64,9 +64,6 @@ one_more sums i P = (into, out)
     out (inl (k, less, h)) = (k, omega (arith, less), h)
     out (inr h) = (i, omega arith, h)
 
-pub one_of_none : (sums : List (List Spot)) (P : List Vector → Type 0) → ¬ (OneOf sums 0 P)
-one_of_none sums P (k, less, h) = omega (arith, less)
-
 pub one_of_all : (sums : List (List Spot)) (i : ℕ) (P : List Vector → Type 0) → i ≡ length sums → OneOf sums i P ↔ Any P (sums_seen sums)
 one_of_all sums i P e = (into, out)
   where

@@ -114,9 +114,6 @@ piece_placed : {sums : List (List Vector)} {room : Frame} {a b : Vector} {ps : L
 piece_placed {a = a} {b = b} {ps = ps} k d ha hb onward pieces within = let h = pieces.along k d within in placed a b (get_or ps k d) ha hb onward h.points h.from h.to h.onward
 
 -- halfway, by weights
-middle_of : Weights → Weights → Weights
-middle_of u v = record { s = u.s +ℤ v.s; t = u.t +ℤ v.t }
-
 middle_weights : (u v : Weights) → IsWeights u → IsWeights v → IsWeights (record { s = u.s +ℤ v.s; t = u.t +ℤ v.t })
 middle_weights u v hu hv = record { first = omega (arith, linear, hu.first, hv.first); second = omega (arith, linear, hu.second, hv.second); some = omega (arith, linear, hu.some, hv.some) }
 

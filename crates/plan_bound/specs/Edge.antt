@@ -28,7 +28,8 @@ pub record AreCovered (sums : List (List Vector)) (a b : Vector) (parts : List P
   pub exact : (z : Weights) → IsInner z → Covered sums (weighted a b z) ↔ Any (λ p. InOpen p (fraction_at z)) parts
 
 -- what is known of the edge from a to b
-pub record Spans (sums : List (List Vector)) (room : Frame) (a b : Vector) (within : Part) (parts : List Part) (first last : Bool) : Type 0 where
+pub record Spans (sums : List (List Vector)) (room : Frame) (a b : Vector)
+    (within : Part) (parts : List Part) (first last : Bool) : Type 0 where
   pub in_room : IsInRoom room a b within
   pub covered : AreCovered sums a b parts
   pub sorted : ByStart parts

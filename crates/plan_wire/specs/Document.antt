@@ -121,7 +121,8 @@ obstacles_of v = bind (bind (elements v) (each_read obstacle_of)) (given (λ os.
 -- ---- queries: x and y from -2046 to 2046 of a start and of a goal
 
 unfoldable pub query_from : List Data → Option (Vector × Vector)
-query_from (sx ∷ sy ∷ gx ∷ gy ∷ []) = bind (spot_at MOST_COORDINATE sx sy) (λ start. bind (spot_at MOST_COORDINATE gx gy) (λ goal. Some (start, goal)))
+query_from (sx ∷ sy ∷ gx ∷ gy ∷ []) =
+    bind (spot_at MOST_COORDINATE sx sy) (λ start. bind (spot_at MOST_COORDINATE gx gy) (λ goal. Some (start, goal)))
 query_from _ = None
 
 unfoldable pub query_of : Data → Option (Vector × Vector)

@@ -1,4 +1,5 @@
 -- Between a clear point and one that touches, some point is uncovered and on an edge: the first one at which a block holds.
+-- Nothing cites `boundary_point` yet: it is stock for slabs and regions.
 use Rattle.std.proofs.Common.{◌≡◌, ◌⊎◌, inl, inr, ⊎_elim, ℤ, pos, ◌≤ℤ◌, ◌<ℤ◌, List, [], map, All, Any, get_or, refl, sym, subst, arith}
 use Rattle.std.proofs.lemmas.List.Elements.{All-map, All-contains}
 use Rattle.std.specs.List.{flat_map}
