@@ -3,6 +3,7 @@ use Rattle.std.specs.Prelude.{◌≡◌, ◌↔◌, ℕ, ◌<◌, ◌≤◌, ◌
 use Rattle.plan_spec.specs.Vector.{Vector}
 use Rattle.plan_spec.specs.Polygon.{IsFromLeast}
 use Rattle.plan_spec.specs.SimplePolygon.{InPolygon, IsSimple, TurnsLeft, IsFirstWrongPair}
+use Rattle.plan_grid.specs.declared.bounds.TheConstants.{MOST_CORNER}
 use Rattle.plan_grid.specs.declared.spot.Spot.{Spot}
 use Rattle.plan_grid.specs.Spot.{spots_seen, IsWithin}
 use Rattle.plan_poly.specs.declared.fault.PolyFault.{PolyFault}
@@ -12,7 +13,7 @@ use Rattle.plan_poly.specs.declared.fault.PolyFault.TheVariants.{Few, Many, Rang
 pub record IsSimpleList (spots : List Spot) : Type 0 where
   pub at_least_three : 3 ≤ length spots
   pub at_most_32 : length spots ≤ 32
-  pub bounded : All (IsWithin 1023) spots
+  pub bounded : All (IsWithin MOST_CORNER) spots
   pub simple : IsSimple (spots_seen spots)
 
 -- such a list that begins with its least vertex and turns left there, so runs counterclockwise
@@ -36,8 +37,8 @@ pub record IsRead (given kept : List Spot) : Type 0 where
 -- spot i is the first that is out of range
 pub record IsFirstOut (spots : List Spot) (i : ℕ) : Type 0 where
   pub within : i < length spots
-  pub out : (d : Spot) → ¬ (IsWithin 1023 (get_or spots i d))
-  pub first : (k : ℕ) (d : Spot) → k < i → IsWithin 1023 (get_or spots k d)
+  pub out : (d : Spot) → ¬ (IsWithin MOST_CORNER (get_or spots i d))
+  pub first : (k : ℕ) (d : Spot) → k < i → IsWithin MOST_CORNER (get_or spots k d)
 
 -- 3 to 32 spots
 abbrev pub HasCount : List Spot → Type 0
@@ -48,4 +49,4 @@ abbrev pub IsFault : List Spot → PolyFault → Type 0
 IsFault spots (Few n) = (n ≡ length spots) × (length spots < 3)
 IsFault spots (Many n) = (n ≡ length spots) × (32 < length spots)
 IsFault spots (Range i) = HasCount spots × IsFirstOut spots i
-IsFault spots (NotSimple i j) = HasCount spots × All (IsWithin 1023) spots × IsFirstWrongPair (spots_seen spots) i j
+IsFault spots (NotSimple i j) = HasCount spots × All (IsWithin MOST_CORNER) spots × IsFirstWrongPair (spots_seen spots) i j

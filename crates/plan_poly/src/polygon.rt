@@ -7,7 +7,7 @@ use crate::edge::Edge;
 use crate::fault::PolyFault;
 use crate::first_wrong::first_wrong;
 use crate::least::turn_to_least;
-use plan_grid::{Point, Spot, orientation};
+use plan_grid::{MOST_CORNER, Point, Spot, orientation};
 use std::marker::Model;
 
 /// A simple polygon of 3 to 32 vertices with coordinates of at most 1023 in absolute value, counterclockwise from its
@@ -100,7 +100,7 @@ fn arrange(spots: &mut [Spot])
 
 // The number of the first spot with a coordinate above 1023 in absolute value.
 fn first_out(spots: &[Spot]) -> Option<usize>
-    ensures { MatchOption result (All (IsWithin 1023) spots.now) (IsFirstOut spots.now) }
+    ensures { MatchOption result (All (IsWithin MOST_CORNER) spots.now) (IsFirstOut spots.now) }
 {
     for i in 0..spots.len() {
         if !is_in_range(spots[i]) {
@@ -112,7 +112,7 @@ fn first_out(spots: &[Spot]) -> Option<usize>
 
 // Whether both coordinates are at most 1023 in absolute value.
 fn is_in_range(spot: Spot) -> bool
-    ensures { IsTrue result ↔ IsWithin 1023 spot }
+    ensures { IsTrue result ↔ IsWithin MOST_CORNER spot }
 {
-    spot.x.unsigned_abs() <= 1023 && spot.y.unsigned_abs() <= 1023
+    spot.x.unsigned_abs() <= MOST_CORNER && spot.y.unsigned_abs() <= MOST_CORNER
 }

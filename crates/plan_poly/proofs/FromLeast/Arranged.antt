@@ -8,6 +8,7 @@ use Rattle.plan_spec.specs.Vector.{turn}
 use Rattle.plan_spec.specs.Polygon.{IsFromLeast}
 use Rattle.plan_spec.specs.SimplePolygon.{last}
 use Rattle.plan_spec.specs.Triangulation.{from_least}
+use Rattle.plan_grid.specs.declared.bounds.TheConstants.{MOST_CORNER}
 use Rattle.plan_grid.specs.declared.spot.Spot.{Spot}
 use Rattle.plan_grid.specs.Spot.{spot_seen, spots_seen, IsWithin}
 use Rattle.plan_plane.proofs.Backwards.{all_back, back_is}
@@ -87,7 +88,7 @@ begun given s h e =
     let k = from_least_is (spots_seen given) (loop_of h) (omega (arith, h.at_least_three, count_seen given)) in
     (subst Loop (sym e) k.0, subst IsFromLeast (sym e) k.1)
 
-polygon_of : (s : List Spot) → 3 ≤ length s → length s ≤ 32 → All (IsWithin 1023) s → Left (spots_seen s) → IsPolygon s
+polygon_of : (s : List Spot) → 3 ≤ length s → length s ≤ 32 → All (IsWithin MOST_CORNER) s → Left (spots_seen s) → IsPolygon s
 polygon_of s three most bounded l = record {
   simple_list = record { at_least_three = three; at_most_32 = most; bounded = bounded; simple = loop_simple (spots_seen s) (omega (arith, three, count_seen s)) l.loop };
   least = l.least;
@@ -115,7 +116,7 @@ read_as_is given s h e r n =
     let k = begun given s h e in
     record {
       given_simple = h;
-      polygon = polygon_of s three (omega (arith, size, h.at_most_32)) (all_rotated (IsWithin 1023) given s r h.bounded) (left_as_is s three k.0 k.1 n);
+      polygon = polygon_of s three (omega (arith, size, h.at_most_32)) (all_rotated (IsWithin MOST_CORNER) given s r h.bounded) (left_as_is s three k.0 k.1 n);
       order = inl r;
       same_points = same_points given s (inl r);
     }
@@ -127,7 +128,7 @@ read_other_way given s h e r right =
     let k = begun given s h e in
     record {
       given_simple = h;
-      polygon = polygon_of (flip s) (omega (arith, three, length_flip s)) (omega (arith, size, h.at_most_32, length_flip s)) (all_flipped (IsWithin 1023) s (all_rotated (IsWithin 1023) given s r h.bounded)) (left_other_way s three k.0 k.1 right);
+      polygon = polygon_of (flip s) (omega (arith, three, length_flip s)) (omega (arith, size, h.at_most_32, length_flip s)) (all_flipped (IsWithin MOST_CORNER) s (all_rotated (IsWithin MOST_CORNER) given s r h.bounded)) (left_other_way s three k.0 k.1 right);
       order = inr (rotation_flipped given s r);
       same_points = same_points given (flip s) (inr (rotation_flipped given s r));
     }

@@ -8,6 +8,7 @@ use Rattle.plan_spec.specs.Polygon.{Inside, IsFromLeast}
 use Rattle.plan_spec.specs.SimplePolygon.{InPolygon, TurnsLeft}
 use Rattle.plan_spec.specs.Triangulation as spec
 use Rattle.plan_spec.specs.Triangulation.{from_least, triangles}
+use Rattle.plan_grid.specs.declared.bounds.TheConstants.{MOST_CORNER}
 use Rattle.plan_grid.specs.declared.spot.Spot.{Spot}
 use Rattle.plan_grid.specs.Spot.{spot_seen, spots_seen, IsWithin}
 use Rattle.plan_poly.specs.Polygon.{IsPolygon}
@@ -42,7 +43,7 @@ record Near (v : Vector) : Type 0 where
   x : unsigned_abs v.x ≤ 1023
   y : unsigned_abs v.y ≤ 1023
 
-near : {s : List Spot} → IsPolygon s → (t : Spot) → Contains (spots_seen s) (spot_seen t) → IsWithin 1023 t
+near : {s : List Spot} → IsPolygon s → (t : Spot) → Contains (spots_seen s) (spot_seen t) → IsWithin MOST_CORNER t
 near {s} p t has =
     let n = All-contains Near (spots_seen s) (spot_seen t) (All-map Near spot_seen s (λ k d within. let b = p.simple_list.bounded k d within in record { x = b.x; y = b.y })) has in
     record { x = n.x; y = n.y }
@@ -53,7 +54,7 @@ one {s} p t left least has = record {
   counterclockwise = record {
     triangle = record {
       three = refl;
-      bounded = All-cons (IsWithin 1023) t.a (t.b ∷ t.c ∷ []) (near p t.a has.0) (All-cons (IsWithin 1023) t.b (t.c ∷ []) (near p t.b has.1) (All-cons (IsWithin 1023) t.c [] (near p t.c has.2) (All-nil (IsWithin 1023))));
+      bounded = All-cons (IsWithin MOST_CORNER) t.a (t.b ∷ t.c ∷ []) (near p t.a has.0) (All-cons (IsWithin MOST_CORNER) t.b (t.c ∷ []) (near p t.b has.1) (All-cons (IsWithin MOST_CORNER) t.c [] (near p t.c has.2) (All-nil (IsWithin MOST_CORNER))));
       not_flat = λ e. omega (arith, linear, left, e);
     };
     left = left;

@@ -1,6 +1,7 @@
 -- Where none of the tests before answered, the list is simple.
 use Rattle.std.proofs.Common.{◌≡◌, length, All, sym, ap, subst, ◌∙◌, arith}
 use Rattle.plan_spec.specs.SimplePolygon.{IsSimple}
+use Rattle.plan_grid.specs.declared.bounds.TheConstants.{MOST_CORNER}
 use Rattle.plan_grid.specs.Spot.{spots_seen, IsWithin}
 use Rattle.plan_poly.proofs.polygon.Polygon.read.Goals as goal
 
@@ -12,6 +13,6 @@ of-requires c =
     record {
       at_least_three = omega (arith, count);
       at_most_32 = omega (arith, count);
-      bounded = subst (All (IsWithin 1023)) c.deref.ensures.value c.in_default.ensures;
+      bounded = subst (All (IsWithin MOST_CORNER)) c.deref.ensures.value c.in_default.ensures;
       simple = subst (λ l. IsSimple (spots_seen l)) c.deref-2.ensures.value c.in_default-first_wrong.ensures;
     }
