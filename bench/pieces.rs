@@ -492,12 +492,15 @@ fn spiral(random: &mut Random) -> Vec<Spot> {
     turns.iter().map(|(x, y)| at(x * wide, y * tall)).collect()
 }
 
-fn timed<T>(name: &str, call: impl FnOnce() -> T, count: impl FnOnce(&T) -> usize) -> T {
-    let start = Instant::now();
-    let found = call();
-    let spent = start.elapsed().as_millis();
-    println!("{name}: {spent} ms, {}", count(&found));
-    found
+// Triangulates each polygon; the answer is a digest of the second corners of all triangles, in their order.
+fn triangulate_all(polygons: &[Vec<Spot>]) -> u64 {
+    let mut digest = 0u64;
+    for polygon in polygons {
+        for t in triangulate(polygon) {
+            digest = digest.wrapping_mul(31).wrapping_add(t[1].x.unsigned_abs() as u64);
+        }
+    }
+    digest
 }
 
 fn main() {
@@ -506,7 +509,10 @@ fn main() {
     let mut random = Random(1);
     let kinds = [star, comb, spiral];
     let lists: Vec<_> = (0..31_250).map(|i| kinds[i % 3](&mut random)).collect();
-    let polygons = timed("read", || lists.into_iter().filter_map(read).collect::<Vec<_>>(), |found| found.len());
-    let count = |polygon: &Vec<Spot>| triangulate(polygon).iter().filter(|t| t[1] < t[2]).count();
-    timed("triangulate", || polygons.iter().map(count).sum::<usize>(), |count| *count);
+    let start = Instant::now();
+    let polygons: Vec<_> = lists.into_iter().filter_map(read).collect();
+    println!("read: {} ms, {}", start.elapsed().as_millis(), polygons.len());
+    let start = Instant::now();
+    let digest = triangulate_all(&polygons);
+    println!("triangulate: {} ms, {digest}", start.elapsed().as_millis());
 }
