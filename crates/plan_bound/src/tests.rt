@@ -207,3 +207,182 @@ fn leaves_what_edges_on_one_line_have_in_common(rt: HostRuntime) -> Result<(), N
     assert!(rt; are(&pieces, &want));
     Ok(())
 }
+
+// The bars above and below meet in (9,10) alone.
+#[test]
+fn leaves_the_point_in_which_two_bars_meet(rt: HostRuntime) -> Result<(), NoMemory> {
+    let sums = [
+        sum([spot(-5, 11), spot(9, 11), spot(-5, 13)], ROBOT),
+        sum([spot(-5, 13), spot(9, 11), spot(9, 13)], ROBOT),
+        sum([spot(10, 8), spot(25, 8), spot(10, 10)], ROBOT),
+        sum([spot(10, 10), spot(25, 8), spot(25, 10)], ROBOT),
+    ];
+    let pieces = uncovered(&rt, rt.alloc(), &sums, room(), 2, &OpenGate)?;
+    let want = [
+        (1, 0, 10, 9, 10),
+        (2, 9, 10, 9, 11),
+        (3, 9, 11, 9, 11),
+        (7, 9, 10, 9, 10),
+        (8, 9, 10, 9, 13),
+        (9, 0, 13, 9, 13),
+        (10, 9, 8, 10, 7),
+        (11, 10, 7, 19, 7),
+        (13, 10, 10, 10, 10),
+        (14, 9, 10, 10, 10),
+        (15, 9, 8, 9, 10),
+        (16, 9, 10, 9, 10),
+        (19, 9, 10, 19, 10),
+        (20, 0, 0, 19, 0),
+        (21, 19, 0, 19, 7),
+        (21, 19, 10, 19, 19),
+        (22, 0, 19, 19, 19),
+        (23, 0, 0, 0, 10),
+        (23, 0, 13, 0, 19),
+    ];
+    assert!(rt; are(&pieces, &want));
+    Ok(())
+}
+
+// The parts of the bottom that the two cover meet in (8,0).
+#[test]
+fn leaves_a_point_between_two_covered_parts(rt: HostRuntime) -> Result<(), NoMemory> {
+    let sums = [
+        sum([spot(4, -4), spot(8, -4), spot(8, 4)], ROBOT),
+        sum([spot(9, -4), spot(13, -4), spot(9, 4)], ROBOT),
+    ];
+    let pieces = uncovered(&rt, rt.alloc(), &sums, room(), 1, &OpenGate)?;
+    let want = [
+        (2, 8, 0, 8, 4),
+        (3, 7, 4, 8, 4),
+        (4, 5, 0, 7, 4),
+        (8, 9, 4, 11, 0),
+        (9, 8, 4, 9, 4),
+        (10, 8, 0, 8, 4),
+        (11, 0, 0, 5, 0),
+        (11, 8, 0, 8, 0),
+        (11, 11, 0, 19, 0),
+        (12, 19, 0, 19, 19),
+        (13, 0, 19, 19, 19),
+        (14, 0, 0, 0, 19),
+    ];
+    assert!(rt; are(&pieces, &want));
+    Ok(())
+}
+
+// A third sum covers (8,0).
+#[test]
+fn leaves_no_point_that_a_third_sum_covers(rt: HostRuntime) -> Result<(), NoMemory> {
+    let sums = [
+        sum([spot(4, -4), spot(8, -4), spot(8, 4)], ROBOT),
+        sum([spot(9, -4), spot(13, -4), spot(9, 4)], ROBOT),
+        sum([spot(6, -3), spot(11, -3), spot(9, 3)], ROBOT),
+    ];
+    let pieces = uncovered(&rt, rt.alloc(), &sums, room(), 1, &OpenGate)?;
+    let want = [
+        (2, 8, 3, 8, 4),
+        (3, 7, 4, 8, 4),
+        (4, 5, 0, 7, 4),
+        (8, 9, 4, 11, 0),
+        (9, 8, 4, 9, 4),
+        (10, 8, 3, 8, 4),
+        (15, 8, 3, 8, 3),
+        (16, 8, 3, 8, 3),
+        (17, 0, 0, 5, 0),
+        (17, 11, 0, 19, 0),
+        (18, 19, 0, 19, 19),
+        (19, 0, 19, 19, 19),
+        (20, 0, 0, 0, 19),
+    ];
+    assert!(rt; are(&pieces, &want));
+    Ok(())
+}
+
+// Of the right edge of the first sum (8,0) alone is left, where it comes into the room.
+#[test]
+fn leaves_a_point_where_the_part_in_the_room_ends(rt: HostRuntime) -> Result<(), NoMemory> {
+    let sums = [
+        sum([spot(4, -4), spot(8, -4), spot(8, 4)], ROBOT),
+        sum([spot(8, 1), spot(14, 1), spot(8, 9)], ROBOT),
+    ];
+    let pieces = uncovered(&rt, rt.alloc(), &sums, room(), 1, &OpenGate)?;
+    let want = [
+        (2, 8, 0, 8, 0),
+        (3, 7, 4, 7, 4),
+        (4, 5, 0, 7, 4),
+        (5, 8, 0, 8, 0),
+        (6, 8, 0, 14, 0),
+        (7, 14, 0, 14, 1),
+        (8, 8, 9, 14, 1),
+        (9, 7, 9, 8, 9),
+        (10, 7, 4, 7, 9),
+        (11, 0, 0, 5, 0),
+        (11, 8, 0, 19, 0),
+        (12, 19, 0, 19, 19),
+        (13, 0, 19, 19, 19),
+        (14, 0, 0, 0, 19),
+    ];
+    assert!(rt; are(&pieces, &want));
+    Ok(())
+}
+
+// A sum outside the room has a vertex in its corner.
+#[test]
+fn leaves_the_corner_of_the_room_that_a_sum_touches(rt: HostRuntime) -> Result<(), NoMemory> {
+    let sums = [sum([spot(19, 20), spot(22, 20), spot(19, 23)], ROBOT)];
+    let pieces = uncovered(&rt, rt.alloc(), &sums, room(), 1, &OpenGate)?;
+    let want = [
+        (0, 19, 19, 19, 19),
+        (1, 19, 19, 19, 19),
+        (6, 0, 0, 19, 0),
+        (7, 19, 0, 19, 19),
+        (8, 0, 19, 19, 19),
+        (9, 0, 0, 0, 19),
+    ];
+    assert!(rt; are(&pieces, &want));
+    Ok(())
+}
+
+#[test]
+fn takes_the_greatest_coordinates(rt: HostRuntime) -> Result<(), NoMemory> {
+    let room = Frame {
+        low: Spot { x: -2046, y: -2046 },
+        high: Spot { x: 2046, y: 2046 },
+    };
+    let obstacle = [
+        Spot { x: -1023, y: -1023 },
+        Spot { x: 1023, y: -1023 },
+        Spot { x: 1023, y: 1023 },
+    ];
+    let robot = [
+        Spot { x: -1023, y: -1023 },
+        Spot { x: 1022, y: -1023 },
+        Spot { x: -1023, y: 1022 },
+    ];
+    let pieces = uncovered(&rt, rt.alloc(), &[sum(obstacle, robot)], room, 2, &OpenGate)?;
+    let want = [
+        (0, Spot { x: -2045, y: 0 }, Spot { x: 0, y: -2045 }),
+        (1, Spot { x: 0, y: -2045 }, Spot { x: 2046, y: -2045 }),
+        (2, Spot { x: 2046, y: -2045 }, Spot { x: 2046, y: 2046 }),
+        (3, Spot { x: 1, y: 2046 }, Spot { x: 2046, y: 2046 }),
+        (4, Spot { x: -2045, y: 0 }, Spot { x: 1, y: 2046 }),
+        (5, Spot { x: -2046, y: -2046 }, Spot { x: 2046, y: -2046 }),
+        (6, Spot { x: 2046, y: -2046 }, Spot { x: 2046, y: 2046 }),
+        (7, Spot { x: -2046, y: 2046 }, Spot { x: 2046, y: 2046 }),
+        (8, Spot { x: -2046, y: -2046 }, Spot { x: -2046, y: 2046 }),
+    ];
+    assert_eq!(rt; pieces.list.len(), want.len());
+    for i in 0..want.len() {
+        let (edge, a, b) = want[i];
+        let piece = pieces.list[i];
+        assert_eq!(rt;
+            (piece.edge, piece.a.x(), piece.a.y()),
+            (edge, i64::from(a.x), i64::from(a.y))
+        );
+        assert_eq!(rt;
+            (piece.b.x(), piece.b.y()),
+            (i64::from(b.x), i64::from(b.y))
+        );
+        assert_eq!(rt; (piece.a.w(), piece.b.w()), (1, 1));
+    }
+    Ok(())
+}
