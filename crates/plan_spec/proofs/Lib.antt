@@ -1,3 +1,4 @@
 mod Rows
 mod Boundaries
 mod Polygons
+mod SlabRows

@@ -12,3 +12,5 @@ pub mod Chain
 pub mod Weights
 pub mod Boundary
 pub mod Pieces
+pub mod Slabs
+pub mod Regions
