@@ -5,3 +5,4 @@ pub mod Between
 pub mod Position
 pub mod Decided
 pub mod Beside
+pub mod Floor

@@ -1,5 +1,4 @@
 -- Between a clear point and one that touches, some point is uncovered and on an edge: the first one at which a block holds.
--- Nothing cites `boundary_point` yet: it is stock for slabs and regions.
 use Rattle.std.proofs.Common.{◌≡◌, ◌⊎◌, inl, inr, ⊎_elim, ℤ, pos, ◌≤ℤ◌, ◌<ℤ◌, List, [], map, All, Any, get_or, refl, sym, subst, arith}
 use Rattle.std.proofs.lemmas.List.Elements.{All-map, All-contains}
 use Rattle.std.specs.List.{flat_map}
@@ -121,7 +120,7 @@ boundary_point sums room p q hs spots hp hq =
     subst (λ room. IsClearOf sums room p → ¬ (IsClearOf sums room q) → BoundaryPoint sums room p q) (as_rectangle room spots) (at_rectangle sums room.low.x room.low.y room.high.x room.high.y p q hs hp hq)
 
 -- ---- every point of an edge touches
-edge_held : {vs : List Vector} {s : Segment} (z : Vector) → EdgeOf vs s → IsPoint z → On s z → Inside vs z
+pub edge_held : {vs : List Vector} {s : Segment} (z : Vector) → EdgeOf vs s → IsPoint z → On s z → Inside vs z
 edge_held {vs} {s} z e hz h =
     inside_between vs (All-contains (Inside vs) vs s.a (vertices_inside vs e.sum.convex.left e.sum.points) e.a_in) (All-contains (Inside vs) vs s.b (vertices_inside vs e.sum.convex.left e.sum.points) e.b_in) (between s.a s.b z e.a_point e.b_point hz h)
 

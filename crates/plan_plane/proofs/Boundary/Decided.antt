@@ -1,5 +1,4 @@
 -- Whether a point is held, uncovered or clear is decided, since all tests are signs.
--- Nothing cites `clear_decided` yet: it is stock for slabs and regions.
 use Rattle.std.proofs.Common.{inl, inr, pos, List, [], ◌∷◌, All}
 use Rattle.std.proofs.lemmas.List.Elements.{All-nil, All-cons, All-head, All-tail}
 use Rattle.plan_spec.specs.Vector.{Vector, turn}

@@ -1,5 +1,4 @@
 -- Whether a point is held, uncovered or clear depends on its position alone, since the sign of each covector does.
--- Nothing cites `clear_same` yet: it is stock for slabs and regions.
 use Rattle.std.proofs.Common.{◌≡◌, inl, inr, pos, List, get_or, arith}
 use Rattle.plan_exact.specs.Vectors.{cross}
 use Rattle.plan_exact.proofs.Laws.{linear}

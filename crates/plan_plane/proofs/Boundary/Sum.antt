@@ -133,10 +133,10 @@ edge_of vs s h is =
     }
 
 -- a vertex is on or left of the edge; strictly left, unless an end
-vertex_side : {vs : List Vector} {s : Segment} (v : Vector) → EdgeOf vs s → Contains vs v → EndOrLeft s v
+pub vertex_side : {vs : List Vector} {s : Segment} (v : Vector) → EdgeOf vs s → Contains vs v → EndOrLeft s v
 vertex_side {vs} {s} v e has = All-contains (EndOrLeft s) vs v (All-contains (λ s. All (EndOrLeft s) vs) (edges vs) s e.sum.convex.left e.is_edge) has
 
-vertex_held : {vs : List Vector} {s : Segment} (v : Vector) → EdgeOf vs s → Contains vs v → pos 0 ≤ℤ turn s.a s.b v
+pub vertex_held : {vs : List Vector} {s : Segment} (v : Vector) → EdgeOf vs s → Contains vs v → pos 0 ≤ℤ turn s.a s.b v
 vertex_held {vs} {s} v e has = All-contains (OnOrLeft v) (edges vs) s (All-contains (Inside vs) vs v (vertices_inside vs e.sum.convex.left e.sum.points) has) e.is_edge
 
 -- ---- in line with an edge

@@ -1,5 +1,4 @@
 -- The order of points by x, and by y, is an order.
--- Nothing cites `order_y` yet: it is stock for slabs and regions.
 use Rattle.std.proofs.Common.{◌⊎◌, inl, inr, ◌*ℤ◌, refl, sym, arith}
 use Rattle.plan_exact.specs.Sign.{is_less, is_equal, is_greater}
 use Rattle.plan_exact.proofs.Laws.{linear}

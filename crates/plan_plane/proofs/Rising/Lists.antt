@@ -1,5 +1,4 @@
 -- Rising lists: two with the same values are equal place by place, each list has one, and what is between two values of one is a value of it or strictly between two neighbours.
--- Nothing cites `same_length` yet: it is stock for slabs and regions.
 use Rattle.std.proofs.Common.{◌≡◌, ◌⊎◌, inl, inr, ⊎_elim, ℕ, suc, ◌<◌, List, [], ◌∷◌, length, get_or, All, Any, AllPairs, subst, arith}
 use Rattle.std.specs.List.{AllZip}
 use Rattle.std.proofs.lemmas.List.{get_or_default}
