@@ -1,6 +1,7 @@
 -- The definitions, tried on worked cases: each is computed.
-use Rattle.std.proofs.Common.{◌≡◌, inl, inr, ⊎_elim, ℤ, pos, negsuc, true, false, List, [], ◌∷◌, refl}
+use Rattle.std.proofs.Common.{◌≡◌, inl, inr, ⊎_elim, ℤ, pos, negsuc, true, false, List, [], ◌∷◌, refl, arith}
 use Rattle.std.specs.Int.Signed.{le_z_yes, lt_z_yes}
+use Rattle.std.proofs.lemmas.List.Elements.{All-nil, All-cons}
 use Rattle.plan_spec.specs.Vector.{Vector, spot, turn, minus, Same, Before}
 use Rattle.plan_spec.specs.Segment.{Segment, segment, On, Common}
 use Rattle.plan_spec.specs.Parity.{parity, counted}
@@ -9,7 +10,7 @@ use Rattle.plan_spec.specs.Frame.{Frame, OnOrBeyond}
 use Rattle.plan_spec.specs.Placement.{Scene}
 use Rattle.plan_spec.specs.Chain.{odd_end}
 use Rattle.plan_spec.specs.Route.{legs, StartsAt, EndsAt}
-use Rattle.plan_spec.specs.Reply.{empty_path, wrong_start, wrong_goal, IsFirstFault}
+use Rattle.plan_spec.specs.Reply.{empty_path, wrong_start, wrong_goal, loose, unclosed, start_even, flat as flat_at, IsFirstPathFault, AreBeyondOneSide, IsTight, IsSound, IsFirstChainFault}
 
 abbrev flat : ℤ → ℤ → ℤ → ℤ → Segment
 flat ax ay bx by = segment (spot ax ay) (spot bx by)
@@ -144,16 +145,49 @@ ends : EndsAt (record { x = pos 10; y = pos 10; w = pos 2 }) path
 ends = (refl, refl)
 
 -- ---- the first fault, in any scene
-nothing_there : (scene : Scene) → IsFirstFault scene (spot (pos 0) (pos 0)) (spot (pos 5) (pos 5)) [] empty_path
+nothing_there : (scene : Scene) → IsFirstPathFault scene (spot (pos 0) (pos 0)) (spot (pos 5) (pos 5)) [] empty_path
 nothing_there scene = refl
 
 -- from (1, 0) to (5, 4) the path starts wrong and ends wrong: the start is the fault, and the goal is not
-start_first : (scene : Scene) → IsFirstFault scene (spot (pos 1) (pos 0)) (spot (pos 5) (pos 4)) path wrong_start
+start_first : (scene : Scene) → IsFirstPathFault scene (spot (pos 1) (pos 0)) (spot (pos 5) (pos 4)) path wrong_start
 start_first scene = (λ e. absurd (cc), λ h. let e = h.0 in absurd (cc))
 
-goal_later : (scene : Scene) → ¬ (IsFirstFault scene (spot (pos 1) (pos 0)) (spot (pos 5) (pos 4)) path wrong_goal)
+goal_later : (scene : Scene) → ¬ (IsFirstPathFault scene (spot (pos 1) (pos 0)) (spot (pos 5) (pos 4)) path wrong_goal)
 goal_later scene h = let e = h.0.0 in absurd (cc)
 
 -- from (0, 0) to (5, 4) it ends wrong
-goal_missed : (scene : Scene) → IsFirstFault scene (spot (pos 0) (pos 0)) (spot (pos 5) (pos 4)) path wrong_goal
+goal_missed : (scene : Scene) → IsFirstPathFault scene (spot (pos 0) (pos 0)) (spot (pos 5) (pos 4)) path wrong_goal
 goal_missed scene = ((refl, refl), λ h. let e = h.1 in absurd (cc))
+
+-- ---- chains: which segments are tight, where no sum is
+-- along a side, and beyond one; not from one side to another
+along_side : AreBeyondOneSide hall (flat (pos 0) (pos 0) (pos 0) (pos 8))
+along_side = inl (le_z_yes tt, le_z_yes tt)
+
+beyond_side : AreBeyondOneSide hall (flat (pos 12) (pos 3) (pos 10) (pos 4))
+beyond_side = inr (inl (le_z_yes tt, le_z_yes tt))
+
+abbrev Tight : Segment → Type 0
+Tight = IsTight [] hall
+
+across : ¬ (Tight (flat (pos 0) (pos 3) (pos 10) (pos 3)))
+across (inl (k, vs, lt, e, h)) = absurd (omega arith)
+across (inr (inl h)) = h.1.le
+across (inr (inr (inl h))) = h.0.le
+across (inr (inr (inr (inl h)))) = h.0.le
+across (inr (inr (inr (inr h)))) = h.0.le
+
+-- of a loose and of a flat segment the first is the fault
+loose_first : IsFirstChainFault Tight (spot (pos 2) (pos 2)) (spot (pos 5) (pos 5)) (flat (pos 0) (pos 3) (pos 10) (pos 3) ∷ flat (pos 1) (pos 1) (pos 1) (pos 1) ∷ []) (loose 0)
+loose_first = record { bad = (λ e. let f = e.0 in absurd (cc), across); earlier = λ j below. absurd (omega arith) }
+
+flat_first : IsFirstChainFault Tight (spot (pos 2) (pos 2)) (spot (pos 5) (pos 5)) (flat (pos 1) (pos 1) (pos 1) (pos 1) ∷ flat (pos 0) (pos 3) (pos 10) (pos 3) ∷ []) (flat_at 0)
+flat_first = record { bad = (refl, refl); earlier = λ j below. absurd (omega arith) }
+
+-- a chain without segments is closed, and even at the start
+no_chain : IsFirstChainFault Tight (spot (pos 2) (pos 2)) (spot (pos 5) (pos 5)) [] start_even
+no_chain = (λ k d within. absurd (omega arith), λ z hz. refl, refl)
+
+-- one segment alone is not closed
+one_alone : IsFirstChainFault Tight (spot (pos 2) (pos 2)) (spot (pos 5) (pos 5)) (flat (pos 0) (pos 0) (pos 10) (pos 0) ∷ []) (unclosed 0)
+one_alone = (All-cons (IsSound Tight) (flat (pos 0) (pos 0) (pos 10) (pos 0)) [] (λ e. let f = e.0 in absurd (cc), inr (inr (inr (inl (le_z_yes tt, le_z_yes tt))))) (All-nil (IsSound Tight)), record { bad = inl refl; earlier = λ j below. absurd (omega arith) })

@@ -6,7 +6,7 @@ use Rattle.plan_spec.specs.Vector.{Vector, IsPoint, Same, SameX, SameY, LeX, LeY
 use Rattle.plan_spec.specs.Segment.{Segment, On, segment}
 use Rattle.plan_spec.specs.Placement.{Scene, Touches as Touching}
 use Rattle.plan_spec.specs.Route.{OnRoute, StartsAt, legs, segments}
-use Rattle.plan_spec.specs.Reply.{SegmentTouches, FirstTouching}
+use Rattle.plan_spec.specs.Reply.{SegmentTouches, IsFirst}
 use Rattle.plan_plane.proofs.Lists.{any_here, any_there}
 use Rattle.plan_wire.specs.Document.{First, first_of}
 use Rattle.plan_top.specs.Laws.{ValidOrInvalid, OneFirstFault, OneAnswer}
@@ -43,16 +43,19 @@ pub valid_or_invalid : ValidOrInvalid
 valid_or_invalid d EmptyPath (valid, empty) = subst (StartsAt d.start) empty valid.is_route.starts
 valid_or_invalid d WrongStart (valid, fault) = fault.1 valid.is_route.starts
 valid_or_invalid d WrongGoal (valid, fault) = fault.1 valid.is_route.ends
-valid_or_invalid d (Touches k) (valid, fault) = let t = on_route d.scene d.path k fault.2.touching in valid.is_clear t.0 t.1 t.2 t.3
+valid_or_invalid d (Touches k) (valid, fault) = let t = on_route d.scene d.path k fault.2.bad in valid.is_clear t.0 t.1 t.2 t.3
 
-not_before : (d : First) (j k : ℕ) → j < k → FirstTouching d.scene d.path j → ¬ (FirstTouching d.scene d.path k)
-not_before d j k below first second = by (slice_get (legs d.path) j) first.touching (second.earlier j below)
+abbrev FirstTouching : First → ℕ → Type 0
+FirstTouching d k = IsFirst (SegmentTouches d.scene) (λ leg. ¬ (SegmentTouches d.scene leg)) (legs d.path) k
+
+not_before : (d : First) (j k : ℕ) → j < k → FirstTouching d j → ¬ (FirstTouching d k)
+not_before d j k below first second = by (slice_get (legs d.path) j) first.bad (second.earlier j below)
   where
     by : (o : Option Segment) → IsSomeAnd o (SegmentTouches d.scene) → ¬ (IfSome o (λ s. ¬ (SegmentTouches d.scene s)))
     by None h k = h
     by (Some s) h k = k h
 
-one_segment : (d : First) (j k : ℕ) → FirstTouching d.scene d.path j → FirstTouching d.scene d.path k → j ≡ k
+one_segment : (d : First) (j k : ℕ) → FirstTouching d j → FirstTouching d k → j ≡ k
 one_segment d j k hj hk = by (cases_lt j k) (cases_lt k j)
   where
     by : (j < k) ⊎ (k ≤ j) → (k < j) ⊎ (j ≤ k) → j ≡ k

@@ -1,7 +1,7 @@
 -- What a call answers and writes, by the bytes that its source tells, and which of its two counts of faults rises.
 use Rattle.std.specs.Prelude.{◌≡◌, ℕ, ◌⊎◌, List, [], Option, Some, None, IfSome, IsSomeAnd}
 use Rattle.plan_spec.specs.Route.{IsClearPolyline}
-use Rattle.plan_spec.specs.Reply.{IsFirstFault}
+use Rattle.plan_spec.specs.Reply.{IsFirstPathFault}
 use Rattle.plan_wire.specs.Stream.{Appends, AppendsPart}
 use Rattle.plan_wire.specs.Document.{First, first_of}
 use Rattle.plan_top.specs.Fault.{fault_seen}
@@ -23,7 +23,7 @@ IsValid d = IsClearPolyline d.scene d.start d.goal d.path
 
 -- this is the first fault of the path
 abbrev pub IsInvalid : CheckFault → First → Type 0
-IsInvalid fault d = IsFirstFault d.scene d.start d.goal d.path (fault_seen fault)
+IsInvalid fault d = IsFirstPathFault d.scene d.start d.goal d.path (fault_seen fault)
 
 -- a lawful answer of `check` to the bytes, where they are told
 abbrev pub IsAnswer : Told → Status → Type 0

@@ -1,7 +1,7 @@
 ghost use Rattle.std.specs.Prelude.{◌<◌, ◌^◌, ◌↔◌, length, All, IsTrue, MatchOption};
 ghost use Rattle.plan_spec.specs.Placement as placement;
 ghost use Rattle.plan_spec.specs.Route.{IsClearPolyline, legs};
-ghost use Rattle.plan_spec.specs.Reply.{IsFirstFault};
+ghost use Rattle.plan_spec.specs.Reply.{IsFirstPathFault};
 ghost use Rattle.plan_grid.specs.Spot.{spot_seen, spots_seen, edge_seen, IsWithin};
 ghost use Rattle.plan_top.specs.Fault.{fault_seen};
 ghost use Rattle.plan_top.specs.Scene.{IsSceneOf};
@@ -18,7 +18,7 @@ pub fn check(scene: &Scene, start: Spot, goal: Spot, path: &[Spot]) -> Option<Ch
     ensures { (s : placement.Scene) → IsSceneOf s scene.now → MatchOption result
         (IsClearPolyline s (spot_seen start) (spot_seen goal) (spots_seen path.now))
         (λ fault.
-        IsFirstFault s (spot_seen start) (spot_seen goal) (spots_seen path.now) (fault_seen fault)) }
+        IsFirstPathFault s (spot_seen start) (spot_seen goal) (spots_seen path.now) (fault_seen fault)) }
 {
     if path.is_empty() {
         return Some(CheckFault::EmptyPath);

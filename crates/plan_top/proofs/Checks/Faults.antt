@@ -12,7 +12,7 @@ use Rattle.plan_spec.specs.Polygon.{Inside}
 use Rattle.plan_spec.specs.Placement.{Leaves, Meets, Scene as Placed}
 use Rattle.plan_spec.specs.Frame.{OnOrBeyond}
 use Rattle.plan_spec.specs.Route.{IsClearPolyline, StartsAt, EndsAt, legs}
-use Rattle.plan_spec.specs.Reply.{SegmentTouches, FirstTouching}
+use Rattle.plan_spec.specs.Reply.{SegmentTouches, IsFirst}
 use Rattle.plan_top.proofs.Scenes.Leaving.{segment_beyond}
 use Rattle.plan_top.proofs.Checks.ClearPaths.{clear_polyline}
 use Rattle.plan_top.proofs.Checks.Touching.{touches_where, any_on_alike}
@@ -104,9 +104,9 @@ module _ (d : Placed) (scene : Scene) (is_scene : IsSceneOf d scene) where
       clear_polyline d start goal (spots_seen path) (All-map IsPoint spot_seen path (λ k p within. omega (arith, ints))) starts ends
       (λ k s within touches. misses k s within ((alike path some k s within).1 touches))
 
-  pub first_touching : (path : List Spot) (k : ℕ) → 0 < length path → IsFirstLeg (LegTouches scene) (legs (spots_seen path)) k → FirstTouching d (spots_seen path) k
+  pub first_touching : (path : List Spot) (k : ℕ) → 0 < length path → IsFirstLeg (LegTouches scene) (legs (spots_seen path)) k → IsFirst (SegmentTouches d) (λ leg. ¬ (SegmentTouches d leg)) (legs (spots_seen path)) k
   first_touching path k some h = record {
-    touching = some_alike (legs (spots_seen path)) k (alike path some) h.has;
+    bad = some_alike (legs (spots_seen path)) k (alike path some) h.has;
     earlier = λ j below. none_alike (legs (spots_seen path)) j (alike path some) (h.earlier j below);
   }
     where
