@@ -1,5 +1,5 @@
 -- What is read keeps to its bounds: each definition tests what it gives, so a value that it gave has passed the test.
-use Rattle.std.proofs.Common.{◌≡◌, ◌≢◌, ◌≤◌, ◌<◌, ℕ, suc, ℤ, pos, negsuc, neg_ℤ, codes, int_le, int_lt, ◌<ℤ◌, unsigned_abs, Bool, true, false, ◌&&◌, not, List, [], ◌∷◌, length, map, All, Option, None, Some, IfSome, option_and_then, cond, refl, ap, subst, ◌∙◌, arith, nat_le, is_none}
+use Rattle.std.proofs.Common.{◌≡◌, ◌≢◌, ◌≤◌, ◌<◌, ℕ, suc, ℤ, pos, negsuc, neg_ℤ, codes, int_le, int_lt, unsigned_abs, Bool, true, false, ◌&&◌, not, List, [], ◌∷◌, length, map, All, Option, None, Some, IfSome, option_and_then, cond, refl, ap, subst, ◌∙◌, arith, nat_le, is_none}
 use Rattle.std.specs.Ordering.{int_eq}
 use Rattle.std.specs.Str.{is_utf8}
 use Rattle.std.proofs.lemmas.Bool.Decides.{Decides-int_eq}

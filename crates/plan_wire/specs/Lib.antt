@@ -3,3 +3,7 @@ pub mod Memory
 pub mod Document
 pub mod First
 pub mod Fits
+pub mod Reading
+pub mod Documents
+pub mod Seen
+pub mod Bounds

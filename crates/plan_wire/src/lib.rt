@@ -2,10 +2,12 @@
 #![tactic(auto)]
 
 mod document;
+mod documents;
 mod no_memory;
 mod stream;
 
 pub use document::{FirstDocument, FirstReadFault, FirstShape, read_first};
+pub use documents::{Change, Document, Shape, Task, Turn, Want, WireFault, read_document};
 pub use no_memory::NoMemory;
 pub use stream::{
     Failed, MOST_BYTES, MemorySink, MemorySource, Sink, Source, SteadySink, SteadySource,
