@@ -22,7 +22,8 @@ use Rattle.plan_plane.proofs.Segment.Weights.{HasWeights, weights_on, weights_po
 use Rattle.plan_spec.specs.Pieces.{ArePieces}
 use Rattle.plan_bound.proofs.PiecesOfEdge.{different, before_at, not_before_at}
 use Rattle.plan_convex.proofs.Fractions.{at_most_trans, less_at_most, at_most_less, weak, not_both, at_most_or_less}
-use Rattle.plan_bound.proofs.Parts.{on_part_of, on_part}
+use Rattle.plan_bound.proofs.Parts.{on_part}
+use Rattle.plan_plane.proofs.Segment.Part.{on_part_of}
 use Rattle.plan_plane.proofs.Rising.ByCoordinate.{order_x}
 use Rattle.plan_plane.proofs.Lists.{any_weaker}
 use Rattle.plan_plane.proofs.Segment.Reversed.{on_reversed}

@@ -123,10 +123,3 @@ on_part a b f g z ha hb different hf hg h hz = (
 -- a point at a fraction of an edge is on the edge
 pub share_on : (a b : Vector) (f : Fraction) → IsShare f → On (segment a b) (along a b f)
 share_on a b f h = on_combination (f.den -ℤ f.num) f.num a b (weights_of f h).first h.nonneg
-
--- a part of a segment
-pub on_part_of : (e p : Segment) (z : Vector) → HasPoints e → HasPoints p → IsPoint z → On e p.a → On e p.b → On p z → On e z
-on_part_of e p z he hp hz ha hb on_p =
-    let w = weights_on p.a p.b z hp.0 hp.1 hz on_p in
-    on_same e.a e.b (weighted p.a p.b w.at) z he.0 he.1 (weights_point p.a p.b w.at hp.0 hp.1 w.weights) hz w.same
-    (convex e.a e.b p.a p.b w.at.s w.at.t he.0 he.1 hp.0 hp.1 ha hb w.weights.first w.weights.second)

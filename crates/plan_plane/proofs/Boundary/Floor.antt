@@ -1,5 +1,5 @@
 -- Sums in a room whose corners are spots: each edge of the boundary is an edge of a sum or a side of the room, its ends are points, and none of its points is clear.
-use Rattle.std.proofs.Common.{◌≡◌, ◌⊎◌, inl, inr, pos, ◌<ℤ◌, List, All, Any, Contains, zero, suc, refl, sym, subst, arith}
+use Rattle.std.proofs.Common.{◌≡◌, ◌⊎◌, inl, inr, List, All, Any, Contains, zero, suc, refl, subst, arith}
 use Rattle.std.specs.List.{flat_map}
 use Rattle.std.proofs.lemmas.List.Elements.{All-contains}
 use Rattle.plan_exact.proofs.Laws.{linear}

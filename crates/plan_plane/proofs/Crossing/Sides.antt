@@ -8,7 +8,7 @@ use Rattle.plan_exact.specs.Formal.{A, B, C, D}
 use Rattle.plan_exact.proofs.Laws.{linear}
 use Rattle.plan_exact.proofs.RingVectors.{ring_vectors}
 use Rattle.plan_exact.proofs.Certificates.{le_from, lt_from}
-use Rattle.plan_exact.proofs.Signs.{pos_of_pos_mul, signs, sign_of, zero_of_mul_left, pos_of_mul, neg_nonneg, le_of_lt}
+use Rattle.plan_exact.proofs.Signs.{pos_of_pos_mul, signs, sign_of, pos_of_mul, neg_nonneg, le_of_lt}
 use Rattle.plan_exact.proofs.Vectors.{det_swapped}
 use Rattle.plan_spec.specs.Vector.{Vector, IsPoint, LeX, LtX, turn}
 use Rattle.plan_spec.specs.Segment.{On, segment, Common}

@@ -1,5 +1,5 @@
 -- A triangle holds its corners, and a point of it on the line of a side is on the side: its weight at the third corner is 0.
-use Rattle.std.proofs.Common.{sym, ◌≡◌, ℤ, pos, ◌≤ℤ◌, arith, ◌<ℤ◌, [], ◌∷◌}
+use Rattle.std.proofs.Common.{sym, ◌≡◌, pos, ◌≤ℤ◌, arith, ◌<ℤ◌, [], ◌∷◌}
 use Rattle.plan_exact.specs.Expr.{con, ◌⊕◌, ◌⊗◌}
 use Rattle.plan_exact.specs.Formal.{A, B, C, D}
 use Rattle.plan_exact.specs.Formal as F

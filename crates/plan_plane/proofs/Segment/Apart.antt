@@ -1,5 +1,5 @@
 -- A segment is kept apart from a point that it does not have, and from all points near it, by a covector that is positive there and not at its ends.
-use Rattle.std.proofs.Common.{ℤ, pos, ◌≤ℤ◌, ◌<ℤ◌, ◌≡◌, arith, ◌⊎◌, inl, inr, neg_ℤ, ◌+ℤ◌, List, [], ◌∷◌, All}
+use Rattle.std.proofs.Common.{ℤ, pos, ◌≤ℤ◌, ◌<ℤ◌, arith, ◌⊎◌, inl, inr, neg_ℤ, ◌+ℤ◌, List, [], ◌∷◌, All}
 use Rattle.std.proofs.lemmas.List.Elements.{All-head, All-tail, All-nil, All-cons}
 use Rattle.plan_exact.specs.Sign.{Sign, is_negative, is_zero, is_positive}
 use Rattle.plan_exact.specs.Vectors.{dot, opposite, cross}

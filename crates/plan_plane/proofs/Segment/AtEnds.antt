@@ -1,14 +1,13 @@
 -- A point of a segment that is not an end has a positive weight at the other end.
-use Rattle.std.proofs.Common.{◌≡◌, ℤ, pos, ◌+ℤ◌, ◌-ℤ◌, ◌*ℤ◌, ◌<ℤ◌, [], ◌∷◌, ap, arith, ◌≤ℤ◌, sym, ◌∙◌}
+use Rattle.std.proofs.Common.{◌≡◌, ℤ, pos, ◌+ℤ◌, ◌-ℤ◌, ◌*ℤ◌, ◌<ℤ◌, [], ◌∷◌, ap, arith, ◌≤ℤ◌, ◌∙◌}
 use Rattle.plan_exact.specs.Expr.{◌⊕◌, ◌⊖◌, ◌⊗◌, neg}
 use Rattle.plan_exact.specs.Formal.{A, B, C, J, K, L}
 use Rattle.plan_exact.specs.Formal as F
-use Rattle.plan_exact.specs.Sign.{Order, is_less, is_equal, is_greater}
 use Rattle.plan_exact.specs.Vectors.{sum, scaled, env, dot}
 use Rattle.plan_exact.proofs.Certificates.{eq_from}
 use Rattle.plan_exact.proofs.Laws.{linear}
 use Rattle.plan_exact.proofs.RingVectors.{ring_vectors}
-use Rattle.plan_exact.proofs.Signs.{pos_of_nonneg, zeros, order_of, mul_pos, mul_nonneg, pos_of_mul}
+use Rattle.plan_exact.proofs.Signs.{pos_of_nonneg, zeros, mul_pos, mul_nonneg, pos_of_mul}
 use Rattle.plan_spec.specs.Vector.{Vector, Same}
 use Rattle.plan_plane.proofs.Segment.Between.{Between, dot_between}
 

@@ -1,0 +1,2 @@
+//! Event lines, slabs and regions of what the pieces of the boundary leave.
+#![tactic(auto)]
