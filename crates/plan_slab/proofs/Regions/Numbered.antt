@@ -1,0 +1,67 @@
+-- Regions by their numbers: each is a lot, all its points are clear, each clear point is in exactly one, and a lot that is none is clear nowhere.
+use Rattle.std.proofs.Common.{◌≡◌, inl, inr, ℕ, ◌<◌, List, length, Any, sym, subst, arith}
+use Rattle.std.proofs.lemmas.Bool.{cases_order}
+use Rattle.std.proofs.lemmas.List.{get_or_default}
+use Rattle.plan_spec.specs.Vector.{Vector, IsPoint}
+use Rattle.plan_spec.specs.Frame.{Frame}
+use Rattle.plan_spec.specs.Boundary.{IsClearOf}
+use Rattle.plan_spec.specs.Pieces.{Piece}
+use Rattle.plan_spec.specs.Slabs.{Slabs}
+use Rattle.plan_spec.specs.Regions.{Lot, cell, Holds, IsLot, spot_of, lots, AreRegions, region_at, IsIn}
+use Rattle.plan_plane.proofs.Lists.{any_weaker}
+use Rattle.plan_plane.proofs.Pairs.{pairs_at}
+use Rattle.plan_slab.proofs.Regions.ByX.{at_number}
+use Rattle.plan_slab.proofs.Regions.ExactlyOne.{KnownSlabs, one_kind, spot_inside, once, listed}
+use Rattle.plan_slab.proofs.Regions.LotOrder.{Earlier, differs, lots_rise, all_lots, kept_all, kept_has, kept_any, kept_pairs}
+
+module _ {sums : List (List Vector)} {room : Frame} {pieces : List Piece} {σ : Slabs} {found : List Lot} (map : KnownSlabs sums room pieces σ) (regions : AreRegions sums room σ found) where
+  pub is_lot : (n : ℕ) → n < length found → IsLot σ (region_at found n)
+  is_lot n within =
+      kept_all (IsLot σ) regions (all_lots σ (IsLot σ) (λ k i below less. (below, less)) (λ k j below less. (omega (arith, below, less, map.slabs.slab_count, map.slabs.line_count), less))) n (cell 0 0) within
+
+  -- of two numbers the lesser has the earlier lot
+  pub rising : (m n : ℕ) → m < n → n < length found → Earlier (region_at found m) (region_at found n)
+  rising m n less within = pairs_at Earlier found (kept_pairs Earlier regions (lots_rise σ)) m n (cell 0 0) less within
+
+  pub one_number : (m n : ℕ) → m < length found → n < length found → region_at found m ≡ region_at found n → m ≡ n
+  one_number m n hm hn e = elim (cases_order m n) [
+    | inl same ↦ same
+    | inr t ↦ elim t [
+      | inl less ↦ absurd (differs (rising m n less hn) e)
+      | inr more ↦ absurd (differs (rising n m more hm) (sym e))
+    ]
+  ]
+
+  pub spot_clear : (n : ℕ) → n < length found → IsClearOf sums room (spot_of σ (region_at found n))
+  spot_clear n within = kept_has regions n (cell 0 0) within
+
+  pub region_clear : (n : ℕ) (z : Vector) → n < length found → IsPoint z → Holds σ (region_at found n) z → IsClearOf sums room z
+  region_clear n z within hz holds =
+      let lot = region_at found n in
+      let s = spot_inside map lot (is_lot n within) in
+      one_kind map lot (is_lot n within) (spot_of σ lot) z s.0 hz s.1 holds (spot_clear n within)
+
+  -- the number of a listed lot with a clear point
+  number : (lot : Lot) (z : Vector) → IsPoint z → IsLot σ lot → Holds σ lot z → Any (λ b. b ≡ lot) (lots σ) → IsClearOf sums room z → (n : ℕ) × (n < length found) × (region_at found n ≡ lot)
+  number lot z hz is holds among clear =
+      let s = spot_inside map lot is in
+      let free = one_kind map lot is z (spot_of σ lot) hz s.0 holds s.1 clear in
+      at_number (λ b. b ≡ lot) found (cell 0 0) (kept_any (λ b. b ≡ lot) regions (any_weaker (λ b. b ≡ lot) (λ b. (b ≡ lot) × IsClearOf sums room (spot_of σ b)) (λ b e. (e, subst (λ a. IsClearOf sums room (spot_of σ a)) (sym e) free)) (lots σ) among))
+
+  pub exactly_one : (z : Vector) → IsPoint z → IsClearOf sums room z → (n : ℕ) × IsIn σ found z n
+  exactly_one z hz clear =
+      let (lot, is, holds, among) = listed map z hz clear in
+      let (n, within, e) = number lot z hz is holds among clear in (
+        n,
+        record {
+          is_region = within;
+          holds = subst (λ a. Holds σ a z) (sym e) holds;
+          no_other = λ m below h. one_number m n below within (once map (region_at found m) (region_at found n) z hz (is_lot m below) (is_lot n within) h (subst (λ a. Holds σ a z) (sym e) holds));
+        },
+      )
+
+  -- what is no region touches throughout
+  pub other_touches : (lot : Lot) (z : Vector) → IsPoint z → IsLot σ lot → Holds σ lot z → ¬ (Any (λ b. b ≡ lot) found) → ¬ (IsClearOf sums room z)
+  other_touches lot z hz is holds out clear =
+      let (n, h) = exactly_one z hz clear in
+      out (n, region_at found n, h.is_region, get_or_default found n (region_at found n) (cell 0 0) h.is_region, once map (region_at found n) lot z hz (is_lot n h.is_region) is h.holds holds)
