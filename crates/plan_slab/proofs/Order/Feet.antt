@@ -1,0 +1,39 @@
+-- The foot of a point on the line of an edge; which of two lines is lower at an x is the side of the one on which the foot on the other lies.
+use Rattle.std.proofs.Common.{◌≡◌, pos, ◌-ℤ◌, ◌*ℤ◌, ◌<ℤ◌, [], ◌∷◌, sym, subst}
+use Rattle.plan_exact.specs.Expr.{◌⊖◌, ◌⊗◌}
+use Rattle.plan_exact.specs.Formal as F
+use Rattle.plan_exact.specs.Formal.{A, B, C, D, E}
+use Rattle.plan_exact.specs.Vectors.{env}
+use Rattle.plan_exact.proofs.Ring.{ring}
+use Rattle.plan_exact.proofs.Signs.{mul_pos}
+use Rattle.plan_spec.specs.Vector.{Vector, IsPoint, SameX, turn}
+use Rattle.plan_spec.specs.Segment.{Segment}
+use Rattle.plan_spec.specs.Regions.{foot}
+use Rattle.plan_plane.proofs.Segment.Line.{formal_right}
+use Rattle.plan_slab.specs.Levels.{run}
+
+abbrev formal_foot : F.Vec → F.Vec → F.Vec → F.Vec
+formal_foot a b z = F.sum (F.scaled (b.x ⊗ z.w ⊖ z.x ⊗ b.w) a) (F.scaled (z.x ⊗ a.w ⊖ a.x ⊗ z.w) b)
+
+pub foot_w : (s : Segment) (z : Vector) → (foot s z).w ≡ run s *ℤ z.w
+foot_w s z = ring (env [] (s.a ∷ s.b ∷ z ∷ [])) (formal_foot A B C).w (formal_right A B ⊗ C.w) tt
+
+pub foot_point : (s : Segment) (z : Vector) → pos 0 <ℤ run s → IsPoint z → IsPoint (foot s z)
+foot_point s z hs hz = subst (λ y. pos 0 <ℤ y) (sym (foot_w s z)) (mul_pos hs hz)
+
+pub foot_same_x : (s : Segment) (z : Vector) → SameX (foot s z) z
+foot_same_x s z = ring (env [] (s.a ∷ s.b ∷ z ∷ [])) ((formal_foot A B C).x ⊗ C.w) (C.x ⊗ (formal_foot A B C).w) tt
+
+pub foot_in_line : (s : Segment) (z : Vector) → turn s.a s.b (foot s z) ≡ pos 0
+foot_in_line s z = ring (env [] (s.a ∷ s.b ∷ z ∷ [])) (F.det A B (formal_foot A B C)) F.zero tt
+
+-- how far z is above the foot
+pub foot_height : (s : Segment) (z : Vector) → z.y *ℤ run s -ℤ (foot s z).y ≡ turn s.a s.b z
+foot_height s z = ring (env [] (s.a ∷ s.b ∷ z ∷ [])) (C.y ⊗ formal_right A B ⊖ (formal_foot A B C).y) (F.det A B C) tt
+
+-- how far the foot on s is above t, by the sides of z, and by heights
+pub foot_side : (s t : Segment) (z : Vector) → turn t.a t.b (foot s z) ≡ run s *ℤ turn t.a t.b z -ℤ run t *ℤ turn s.a s.b z
+foot_side s t z = ring (env [] (s.a ∷ s.b ∷ t.a ∷ t.b ∷ z ∷ [])) (F.det C D (formal_foot A B E)) (formal_right A B ⊗ F.det C D E ⊖ formal_right C D ⊗ F.det A B E) tt
+
+pub foot_level : (s t : Segment) (z : Vector) → turn t.a t.b (foot s z) ≡ (foot s z).y *ℤ run t -ℤ (foot t z).y *ℤ run s
+foot_level s t z = ring (env [] (s.a ∷ s.b ∷ t.a ∷ t.b ∷ z ∷ [])) (F.det C D (formal_foot A B E)) ((formal_foot A B E).y ⊗ formal_right C D ⊖ (formal_foot C D E).y ⊗ formal_right A B) tt
