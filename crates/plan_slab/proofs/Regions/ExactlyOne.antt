@@ -7,7 +7,8 @@ use Rattle.plan_spec.specs.Boundary.{IsClearOf}
 use Rattle.plan_spec.specs.Pieces.{Piece}
 use Rattle.plan_spec.specs.Slabs.{nowhere, nothing, Slabs, line_at, spans_of, span_at, marks_of, mark_at, AreSlabs}
 use Rattle.plan_spec.specs.Regions.{Lot, cell, wall, Holds, IsLot, spot_of, lots}
-use Rattle.plan_slab.proofs.Pieces.{HasPieces}
+use Rattle.plan_slab.specs.Laws.{AreSlabsOf}
+use Rattle.plan_slab.proofs.Pieces.{HasPieces, has_pieces}
 use Rattle.plan_slab.proofs.Regions.ByX.{between_lines, not_first, not_last}
 use Rattle.plan_slab.proofs.Regions.Cells.{SpannedSlab, cell_drop, in_slab, cell_of_one_kind, in_a_cell, span_piece}
 use Rattle.plan_slab.proofs.Regions.Cells as cells
@@ -22,6 +23,9 @@ use Rattle.plan_slab.proofs.Regions.Walls as walls
 pub record KnownSlabs (sums : List (List Vector)) (room : Frame) (pieces : List Piece) (σ : Slabs) : Type 0 where
   pub known : HasPieces sums room pieces
   pub slabs : AreSlabs sums room pieces σ
+
+pub known_slabs : {sums : List (List Vector)} {room : Frame} {pieces : List Piece} {σ : Slabs} → AreSlabsOf sums room pieces σ → KnownSlabs sums room pieces σ
+known_slabs h = record { known = has_pieces h.floor h.bound; slabs = h.slabs }
 
 module _ {sums : List (List Vector)} {room : Frame} {pieces : List Piece} {σ : Slabs} (map : KnownSlabs sums room pieces σ) where
   -- ---- by number

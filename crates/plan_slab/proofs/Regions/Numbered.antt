@@ -2,7 +2,8 @@
 use Rattle.std.proofs.Common.{◌≡◌, inl, inr, ℕ, ◌<◌, List, length, Any, sym, subst, arith}
 use Rattle.std.proofs.lemmas.Bool.{cases_order}
 use Rattle.std.proofs.lemmas.List.{get_or_default}
-use Rattle.plan_spec.specs.Vector.{Vector, IsPoint}
+use Rattle.plan_exact.proofs.Laws.{linear}
+use Rattle.plan_spec.specs.Vector.{Vector, IsPoint, LtX, LtY}
 use Rattle.plan_spec.specs.Frame.{Frame}
 use Rattle.plan_spec.specs.Boundary.{IsClearOf}
 use Rattle.plan_spec.specs.Pieces.{Piece}
@@ -10,6 +11,8 @@ use Rattle.plan_spec.specs.Slabs.{Slabs}
 use Rattle.plan_spec.specs.Regions.{Lot, cell, Holds, IsLot, spot_of, lots, AreRegions, region_at, IsIn}
 use Rattle.plan_plane.proofs.Lists.{any_weaker}
 use Rattle.plan_plane.proofs.Pairs.{pairs_at}
+use Rattle.plan_plane.proofs.Rising.ByCoordinate.{order_x, order_y}
+use Rattle.plan_slab.proofs.Regions.StraightWays.{beyond}
 use Rattle.plan_slab.proofs.Regions.ByX.{at_number}
 use Rattle.plan_slab.proofs.Regions.ExactlyOne.{KnownSlabs, one_kind, spot_inside, once, listed}
 use Rattle.plan_slab.proofs.Regions.LotOrder.{Earlier, differs, lots_rise, all_lots, kept_all, kept_has, kept_any, kept_pairs}
@@ -65,3 +68,16 @@ module _ {sums : List (List Vector)} {room : Frame} {pieces : List Piece} {σ : 
   other_touches lot z hz is holds out clear =
       let (n, h) = exactly_one z hz clear in
       out (n, region_at found n, h.is_region, get_or_default found n (region_at found n) (cell 0 0) h.is_region, once map (region_at found n) lot z hz (is_lot n h.is_region) is h.holds holds)
+
+  -- a clear point is strictly within the room
+  pub proper : 0 < length found → LtX room.low room.high × LtY room.low room.high
+  proper some =
+      let s = spot_inside map (region_at found 0) (is_lot 0 some) in
+      let z = spot_of σ (region_at found 0) in
+      let clear = spot_clear 0 some in
+      let one = map.known.floor.spots in
+      let low : IsPoint room.low = omega (arith, linear, one.low) in
+      let high : IsPoint room.high = omega (arith, linear, one.high) in (
+        order_x.less room.low z room.high low s.0 high (beyond _ _ (λ h. clear.in_room (inl h))) (beyond _ _ (λ h. clear.in_room (inr (inl h)))),
+        order_y.less room.low z room.high low s.0 high (beyond _ _ (λ h. clear.in_room (inr (inr (inl h))))) (beyond _ _ (λ h. clear.in_room (inr (inr (inr h))))),
+      )

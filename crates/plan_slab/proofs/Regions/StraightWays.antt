@@ -26,7 +26,7 @@ level {z} {d} {v} e b =
     let dz : LeX d z = omega (arith, linear) in
     omega (arith, linear, LeX_after b z zz zd, LeX_before b z zz dz)
 
-beyond : (a b : ℤ) → ¬ (a ≤ℤ b) → b <ℤ a
+pub beyond : (a b : ℤ) → ¬ (a ≤ℤ b) → b <ℤ a
 beyond a b off = elim (le_or_lt a b) [
   | inl h ↦ absurd (off h)
   | inr h ↦ h
