@@ -1,3 +1,6 @@
-mod Pairs
+mod OddEnds
+mod Searched
+mod Unclosed
 mod Found
+pub mod First
 pub mod ParityLaw

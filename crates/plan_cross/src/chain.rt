@@ -1,9 +1,14 @@
-ghost use Rattle.std.specs.Prelude.{◌↔◌, IsTrue, IfOk};
+ghost use Rattle.std.specs.Prelude.{◌↔◌, ◌<◌, ◌^◌, length, map, All, IsTrue, IfOk, MatchOption};
+ghost use Rattle.plan_spec.specs.Vector.{IsPoint};
 ghost use Rattle.plan_spec.specs.Chain.{IsClosed};
+ghost use Rattle.plan_spec.specs.Reply.{HasOddEnd, IsFirst};
+ghost use Rattle.plan_cross.specs.Segment.{segment_seen};
+ghost use Rattle.plan_cross.specs.Ends.{EndsIn, Rises};
 
-use crate::ends::{ends_of, is_paired};
+use crate::ends::{odd_ends, stands_in};
 use crate::no_memory::NoMemory;
 use crate::segment::Segment;
+use plan_grid::Point;
 use std::alloc::Global;
 use std::marker::Model;
 
@@ -31,7 +36,43 @@ impl Model for Chain {
 pub fn closed(alloc: Global, chain: &Chain) -> Result<bool, NoMemory>
     ensures { IfOk result (λ b. IsTrue b ↔ IsClosed chain.now) }
 {
-    let mut ends = ends_of(alloc, &chain.segments)?;
-    ends.sort_unstable();
-    Ok(is_paired(&ends))
+    let odd = odd_ends(alloc, &chain.segments)?;
+    Ok(odd.is_empty())
+}
+
+/// The number of the first segment with an end that is an end of the chain's segments an odd number of times; None
+/// exactly where the chain is closed. The chain has fewer than 2^32 segments. Takes n log n steps for n segments, and
+/// memory for the list of their ends.
+pub fn first_unclosed(alloc: Global, chain: &Chain) -> Result<Option<u32>, NoMemory>
+    requires { length chain.now < 2 ^ 32 }
+    ensures { IfOk result (λ first. MatchOption first (IsClosed chain.now)
+        (IsFirst (HasOddEnd chain.now) (λ s. ¬ (HasOddEnd chain.now s)) chain.now)) }
+{
+    let odd = odd_ends(alloc, &chain.segments)?;
+    Ok(first_ending_in(&odd, &chain.segments))
+}
+
+// The number of the first segment with an end in the list, which rises.
+fn first_ending_in(points: &[Point], segments: &[Segment]) -> Option<u32>
+    requires few { length segments.now < 2 ^ 32 }
+    requires rises { Rises points.now }
+    requires points { All IsPoint points.now }
+    ensures { MatchOption result (All (λ s. ¬ (EndsIn points.now s)) (map segment_seen segments.now))
+        (IsFirst (EndsIn points.now) (λ s. ¬ (EndsIn points.now s)) (map segment_seen segments.now)) }
+{
+    for k in 0..segments.len() {
+        if ends_in(points, &segments[k]) {
+            return Some(k as u32);
+        }
+    }
+    None
+}
+
+// Whether the segment has an end in the list, which rises.
+fn ends_in(points: &[Point], segment: &Segment) -> bool
+    requires rises { Rises points.now }
+    requires points { All IsPoint points.now }
+    ensures { IsTrue result ↔ EndsIn points.now (segment_seen segment.now) }
+{
+    stands_in(points, &segment.a) || stands_in(points, &segment.b)
 }

@@ -1,14 +1,34 @@
-ghost use Rattle.std.specs.Prelude.{◌≡◌, ◌↔◌, IsTrue, IfOk, All, map};
-ghost use Rattle.plan_spec.specs.Vector.{IsPoint};
+ghost use Rattle.std.specs.Prelude.{◌≡◌, ◌↔◌, IsTrue, IfOk, All, AllPairs, Any, map, true};
+ghost use Rattle.plan_spec.specs.Vector.{Vector, IsPoint, Same};
+ghost use Rattle.plan_spec.specs.Chain.{odd_end};
 ghost use Rattle.plan_cross.specs.Segment.{segment_seen};
-ghost use Rattle.plan_cross.specs.Ends.{ends, IsPaired};
+ghost use Rattle.plan_cross.specs.Ends.{ends, unpaired, Rises, AreOddEnds};
 
 use crate::segment::Segment;
 use plan_grid::Point;
 use std::alloc::{AllocError, Global};
 
-/// The two ends of each segment, in the order of the segments.
-pub fn ends_of(alloc: Global, segments: &[Segment]) -> Result<Vec<Point>, AllocError>
+/// The points that are ends of the segments an odd number of times, rising, each once.
+pub fn odd_ends(alloc: Global, segments: &[Segment]) -> Result<Vec<Point>, AllocError>
+    ensures { IfOk result (λ found. AreOddEnds (map segment_seen segments.now) found.items) }
+{
+    let mut ends = ends_of(alloc, segments)?;
+    ends.sort_unstable();
+    unpaired(alloc, &ends)
+}
+
+/// Whether the point stands in the list, which rises.
+pub fn stands_in(points: &[Point], p: &Point) -> bool
+    requires rises { Rises points.now }
+    requires points { All IsPoint points.now }
+    ensures { IsTrue result ↔ Any (λ q. Same q p.now) points.now }
+{
+    prove!(p.w() > 0);
+    points.binary_search(p).is_ok()
+}
+
+// The two ends of each segment, in the order of the segments.
+fn ends_of(alloc: Global, segments: &[Segment]) -> Result<Vec<Point>, AllocError>
     ensures value { IfOk result (λ found. found.items ≡ ends (map segment_seen segments.now)) }
     ensures points { IfOk result (λ found. All IsPoint found.items) }
 {
@@ -22,16 +42,20 @@ pub fn ends_of(alloc: Global, segments: &[Segment]) -> Result<Vec<Point>, AllocE
     Ok(found)
 }
 
-/// Whether the list is made of pairs of neighbours at one position.
-pub fn is_paired(ends: &[Point]) -> bool
-    ensures { IsTrue result ↔ IsPaired ends.now }
+// What is left of a sorted list when pairs of one position are taken out.
+fn unpaired(alloc: Global, ends: &[Point]) -> Result<Vec<Point>, AllocError>
+    ensures { IfOk result (λ found. found.items ≡ unpaired ends.now) }
 {
+    let mut found = Vec::new(alloc);
     let mut left = ends;
     while let [a, b, rest @ ..] = left {
-        if a != b {
-            return false;
+        if a == b {
+            left = rest;
+        } else {
+            found.push(*a)?;
+            left = &left[1..];
         }
-        left = rest;
     }
-    left.is_empty()
+    found.extend_from_slice(left)?;
+    Ok(found)
 }

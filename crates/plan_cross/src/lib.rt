@@ -12,7 +12,7 @@ mod polyline;
 mod segment;
 
 pub use certificate::{Certificate, Query};
-pub use chain::{Chain, closed};
+pub use chain::{Chain, closed, first_unclosed};
 pub use crossing::{over, parity};
 pub use no_memory::NoMemory;
 pub use polyline::Polyline;

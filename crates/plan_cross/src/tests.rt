@@ -1,6 +1,7 @@
+ghost use Rattle.std.specs.Prelude.{◌<◌, ◌^◌, length, IfOk, ◌≡◌};
 ghost use Rattle.plan_grid.specs.Spot.{IsWithin};
 
-use crate::{Chain, NoMemory, Segment, closed, over, parity};
+use crate::{Chain, NoMemory, Segment, closed, first_unclosed, over, parity};
 use plan_grid::{MOST_COORDINATE, Point, Spot};
 use std::alloc::Global;
 
@@ -30,7 +31,9 @@ fn sides(low: i8, right: i8, top: i8) -> [Segment; 4] {
     ]
 }
 
-fn chain(alloc: Global, segments: &[Segment]) -> Result<Chain, NoMemory> {
+fn chain(alloc: Global, segments: &[Segment]) -> Result<Chain, NoMemory>
+    ensures { IfOk result (λ chain. length chain ≡ length segments.now) }
+{
     let segments = Vec::from_slice(alloc, segments)?;
     Ok(Chain { segments })
 }
@@ -100,5 +103,33 @@ fn counts_ends_by_position(rt: HostRuntime) -> Result<(), NoMemory> {
     assert!(rt; !closed(alloc, &chain(alloc, &segments)?)?);
     segments[2].b = half;
     assert!(rt; closed(alloc, &chain(alloc, &segments)?)?);
+    Ok(())
+}
+
+// The number of the first segment with an odd end.
+fn first_odd(alloc: Global, segments: &[Segment]) -> Result<Option<u32>, NoMemory>
+    requires { length segments.now < 2 ^ 32 }
+{
+    let chain = chain(alloc, segments)?;
+    first_unclosed(alloc, &chain)
+}
+
+#[test]
+fn names_the_first_segment_with_an_odd_end(rt: HostRuntime) -> Result<(), NoMemory> {
+    let alloc = rt.alloc();
+    let [bottom, right, top, left] = sides(0, 8, 19);
+    assert_eq!(rt; first_odd(alloc, &[bottom, right, top, left])?, None);
+    assert_eq!(rt; first_odd(alloc, &[])?, None);
+    assert_eq!(rt; first_odd(alloc, &[bottom])?, Some(0));
+    // without the top the corners (8, 19) and (0, 19) are odd, and the second segment has the first of them
+    assert_eq!(rt; first_odd(alloc, &[bottom, right, left])?, Some(1));
+    // a loop, and a segment behind it
+    let beside = segment(20, 0, 21, 0);
+    assert_eq!(rt;
+        first_odd(alloc, &[left, top, right, bottom, beside])?,
+        Some(4)
+    );
+    assert_eq!(rt; first_odd(alloc, &[bottom, bottom])?, None);
+    assert_eq!(rt; first_odd(alloc, &[bottom, bottom, bottom])?, Some(0));
     Ok(())
 }

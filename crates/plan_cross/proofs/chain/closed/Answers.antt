@@ -1,11 +1,13 @@
--- The ends are paired once sorted exactly where the chain is closed.
-use Rattle.plan_cross.proofs.Pairs.{closed_is_paired}
+-- No end is an end an odd number of times.
+use Rattle.std.proofs.Common.{arith}
+use Rattle.std.proofs.lemmas.Bool.Decides.{nat_tests}
+use Rattle.plan_cross.proofs.Unclosed.{closed_is_empty}
 use Rattle.plan_cross.proofs.chain.closed.Goals as goal
 
 pub returns : goal.returns
 returns c =
-    let found = c.in_ok-ends.ensures in
-    let all = rw (c.deref.ensures.value, c.chain.view_is) at found.value in
-    let closed = closed_is_paired c.args.chain.now c.in_ok-ends.ends.items c.sort_unstable.new.self.items all c.sort_unstable.ensures.permutation c.sort_unstable.ensures.sorted found.points in
-    let paired = rw c.deref-2.ensures.value at c.is_paired.ensures in
-    (λ t. closed.0 (paired.0 t), λ h. paired.1 (closed.1 h))
+    let odd = rw (c.deref.ensures.value, c.chain.view_is) at c.in_ok-odd.ensures in
+    let empty = closed_is_empty c.args.chain.now c.in_ok-odd.odd.items odd in
+    let test = c.is_empty.ensures in
+    let ok = c.in_ok-odd.odd.ok in
+    (λ t. empty.1 (grind (arith, nat_tests)), λ k. let e = empty.0 k in grind (arith, nat_tests))
