@@ -4,3 +4,4 @@ pub mod Crossing
 pub mod Across
 pub mod Feet
 pub mod OneOrder
+pub mod Spans

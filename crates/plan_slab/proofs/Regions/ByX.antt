@@ -1,8 +1,7 @@
 -- By x: a clear point is between two neighbouring lines, or on a line that is neither the first nor the last; and a piece that has a point between two reaches across.
-use Rattle.std.proofs.Common.{◌≡◌, inl, inr, ℕ, suc, ◌<◌, ◌≤◌, pos, ◌≤ℤ◌, List, length, get_or, AllPairs, Any, Contains, sym, ◌∙◌, subst, arith}
+use Rattle.std.proofs.Common.{◌≡◌, inl, inr, ℕ, suc, ◌<◌, ◌≤◌, pos, ◌≤ℤ◌, List, length, get_or, AllPairs, Any, Contains, sym, subst, arith}
 use Rattle.std.proofs.lemmas.Bool.{cases_order}
 use Rattle.std.proofs.lemmas.List.Elements.{All-contains}
-use Rattle.std.proofs.lemmas.List.{get_or_default}
 use Rattle.plan_exact.proofs.Laws.{linear}
 use Rattle.plan_exact.proofs.Signs.{le_of_lt}
 use Rattle.plan_spec.specs.Vector.{Vector, IsPoint, LeX, LtX, SameX}
@@ -13,14 +12,11 @@ use Rattle.plan_spec.specs.Pieces.{IsPartOf, Piece}
 use Rattle.plan_spec.specs.Slabs.{nowhere, edge_of, AreLines, Reaches}
 use Rattle.plan_plane.proofs.Segment.ByX.{leX_trans, leX_ltX, ltX_leX}
 use Rattle.plan_slab.proofs.Pieces.{HasPieces, in_range}
+use Rattle.plan_slab.proofs.ByNumber.{at_number}
 use Rattle.plan_slab.proofs.Regions.Falling.{DropsAt, DropsOrZero, drops, not_beyond, not_before, positive_first}
 use Rattle.plan_slab.proofs.Regions.OnPieces.{piece_of}
 use Rattle.plan_slab.proofs.Regions.Rows.{right_of, lines_fall}
 use Rattle.plan_slab.proofs.Regions.StraightWays.{beneath, leftward, rightward}
-
--- an element that has P, by its number
-pub at_number : {X : Type 0} (P : X → Type 0) (xs : List X) (d : X) → Any P xs → (k : ℕ) × (k < length xs) × P (get_or xs k d)
-at_number P xs d (k, x, within, is, h) = (k, within, subst P (sym (get_or_default xs k d x within ∙ is)) h)
 
 rising_le : (ls : List Vector) → AllPairs LtX ls → (j k : ℕ) → j ≤ k → k < length ls → LeX (get_or ls j nowhere) (get_or ls k nowhere)
 rising_le ls rising j k le within = elim (cases_order j k) [

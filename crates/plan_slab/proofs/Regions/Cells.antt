@@ -15,7 +15,8 @@ use Rattle.plan_plane.proofs.Boundary.Decided.{clear_decided}
 use Rattle.plan_plane.proofs.Segment.Between.{Between, between, zero_at, pos_at, neg_at, LtX_after, LtX_before}
 use Rattle.plan_plane.proofs.Segment.ByX.{leX_ltX, ltX_leX}
 use Rattle.plan_slab.proofs.Pieces.{HasPieces}
-use Rattle.plan_slab.proofs.Regions.ByX.{at_number, reaches}
+use Rattle.plan_slab.proofs.Regions.ByX.{reaches}
+use Rattle.plan_slab.proofs.ByNumber.{at_number}
 use Rattle.plan_slab.proofs.Regions.Falling.{Falls, DropsAt, DropsOrZero, drops, drop_apart}
 use Rattle.plan_slab.proofs.Regions.OnPieces.{piece_of, touches, Hit, hit}
 use Rattle.plan_slab.proofs.Regions.Rows.{above_span, spans_fall, slab_drop}

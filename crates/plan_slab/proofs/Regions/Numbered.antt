@@ -13,7 +13,7 @@ use Rattle.plan_plane.proofs.Lists.{any_weaker}
 use Rattle.plan_plane.proofs.Pairs.{pairs_at}
 use Rattle.plan_plane.proofs.Rising.ByCoordinate.{order_x, order_y}
 use Rattle.plan_slab.proofs.Regions.StraightWays.{beyond}
-use Rattle.plan_slab.proofs.Regions.ByX.{at_number}
+use Rattle.plan_slab.proofs.ByNumber.{at_number}
 use Rattle.plan_slab.proofs.Regions.ExactlyOne.{KnownSlabs, one_kind, spot_inside, once, listed}
 use Rattle.plan_slab.proofs.Regions.LotOrder.{Earlier, differs, lots_rise, all_lots, kept_all, kept_has, kept_any, kept_pairs}
 

@@ -16,7 +16,7 @@ use Rattle.plan_plane.proofs.Segment.Between.{Between, on, between_first, betwee
 use Rattle.plan_plane.proofs.Segment.ByX.{leX_trans, leX_ltX, ltX_leX}
 use Rattle.plan_plane.proofs.Segment.Same.{on_same, Same-swapped}
 use Rattle.plan_slab.proofs.Pieces.{IsPiece, HasPieces}
-use Rattle.plan_slab.proofs.Regions.ByX.{at_number}
+use Rattle.plan_slab.proofs.ByNumber.{at_number}
 use Rattle.plan_slab.proofs.Regions.Falling.{Falls, DropsAt, DropsOrZero, drops, drop_apart, not_beyond, not_before, up_to, from_on}
 use Rattle.plan_slab.proofs.Regions.OnPieces.{piece_of, touches, Hit, hit}
 use Rattle.plan_slab.proofs.Regions.Rows.{above_mark, marks_fall}
