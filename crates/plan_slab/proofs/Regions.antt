@@ -12,3 +12,4 @@ pub mod LotOrder
 pub mod Spots
 pub mod ExactlyOne
 pub mod Numbered
+pub mod NearSums

@@ -4,7 +4,7 @@ use Rattle.std.proofs.lemmas.List.Elements.{All-contains}
 use Rattle.plan_exact.specs.Vectors.{cross}
 use Rattle.plan_exact.proofs.Laws.{linear}
 use Rattle.plan_exact.proofs.Signs.{le_of_lt}
-use Rattle.plan_spec.specs.Vector.{Vector, IsPoint, LeX, LtX, LtY, SameX}
+use Rattle.plan_spec.specs.Vector.{Vector, IsPoint, LeX, LtY, SameX}
 use Rattle.plan_spec.specs.Segment.{Segment, On}
 use Rattle.plan_spec.specs.Frame.{Frame}
 use Rattle.plan_spec.specs.Boundary.{IsClearOf}
@@ -14,13 +14,15 @@ use Rattle.plan_spec.specs.Regions.{InCell}
 use Rattle.plan_plane.proofs.Boundary.Decided.{clear_decided}
 use Rattle.plan_plane.proofs.Segment.Between.{Between, between, zero_at, pos_at, neg_at, LtX_after, LtX_before}
 use Rattle.plan_plane.proofs.Segment.ByX.{leX_ltX, ltX_leX}
+use Rattle.plan_slab.proofs.Order.Across.{IsSlab}
+use Rattle.plan_slab.proofs.Order.OneOrder.{on_strand}
 use Rattle.plan_slab.proofs.Pieces.{HasPieces}
 use Rattle.plan_slab.proofs.Regions.ByX.{reaches}
 use Rattle.plan_slab.proofs.ByNumber.{at_number}
 use Rattle.plan_slab.proofs.Regions.Falling.{Falls, DropsAt, DropsOrZero, drops, drop_apart}
 use Rattle.plan_slab.proofs.Regions.OnPieces.{piece_of, touches, Hit, hit}
 use Rattle.plan_slab.proofs.Regions.Rows.{above_span, spans_fall, slab_drop}
-use Rattle.plan_slab.proofs.Regions.SpanLines.{HasPiece, has_piece, on_piece, above_line, below_line}
+use Rattle.plan_slab.proofs.Regions.SpanLines.{HasPiece, has_piece, above_line, below_line}
 use Rattle.plan_slab.proofs.Regions.StraightWays.{beneath, overhead}
 
 -- a cell is a drop of the spans at its points
@@ -50,17 +52,15 @@ module _ {sums : List (List Vector)} {room : Frame} {pieces : List Piece} {ls : 
   pub fall : (z : Vector) → IsPoint z → InSlab (get_or ls k nowhere) (get_or ls (suc k) nowhere) z → Falls (length ss) (above_span ss z)
   fall z hz inside = spans_fall (get_or ls k nowhere) (get_or ls (suc k) nowhere) ss z slab.spans.order hz inside
 
-  pub left_point : IsPoint (get_or ls k nowhere)
-  left_point = slab.lines.points k nowhere (let w = slab.within in omega arith)
-
-  pub right_point : IsPoint (get_or ls (suc k) nowhere)
-  right_point = slab.lines.points (suc k) nowhere slab.within
-
-  pub wide : LtX (get_or ls k nowhere) (get_or ls (suc k) nowhere)
-  wide = slab.lines.rising k (suc k) nowhere (omega arith) slab.within
+  pub two_lines : IsSlab (get_or ls k nowhere) (get_or ls (suc k) nowhere)
+  two_lines = record {
+    left_point = slab.lines.points k nowhere (let w = slab.within in omega arith);
+    right_point = slab.lines.points (suc k) nowhere slab.within;
+    wide = slab.lines.rising k (suc k) nowhere (omega arith) slab.within;
+  }
 
   pub span_piece : (i : ℕ) → i < length ss → HasPiece pieces (get_or ls k nowhere) (get_or ls (suc k) nowhere) (get_or ss i nothing)
-  span_piece i within = has_piece (get_or ls k nowhere) (get_or ls (suc k) nowhere) (get_or ss i nothing) slab.known left_point right_point wide (slab.spans.each i nothing within)
+  span_piece i within = has_piece (get_or ls k nowhere) (get_or ls (suc k) nowhere) (get_or ss i nothing) slab.known two_lines (slab.spans.each i nothing within)
 
   -- a piece that has a point of the slab lies on a span, whose line has the point
   on_span : {p : Piece} (z : Vector) → IsPoint z → InSlab (get_or ls k nowhere) (get_or ls (suc k) nowhere) z → Contains pieces p → On p.part z → (i : ℕ) × (i < length ss) × (above_span ss z i ≡ pos 0)
@@ -93,7 +93,7 @@ module _ {sums : List (List Vector)} {room : Frame} {pieces : List Piece} {ls : 
       along v hv e =
           let zv : LeX z v = omega (arith, linear) in
           let vz : LeX v z = omega (arith, linear) in
-          (ltX_leX (get_or ls k nowhere) z v left_point hz hv inside.0 zv, leX_ltX v z (get_or ls (suc k) nowhere) hv hz right_point vz inside.1)
+          (ltX_leX (get_or ls k nowhere) z v two_lines.left_point hz hv inside.0 zv, leX_ltX v z (get_or ls (suc k) nowhere) hv hz two_lines.right_point vz inside.1)
 
       b : Hit pieces (λ v. SameX z v × LtY v z)
       b = beneath slab.known z hz clear
@@ -108,13 +108,13 @@ module _ {sums : List (List Vector)} {room : Frame} {pieces : List Piece} {ls : 
       v = on_span o.point o.is_point (along o.point o.is_point o.is.0) o.has o.on
 
       above : pos 0 <ℤ above_span ss z u.0
-      above = above_line (get_or ss u.0 nothing) b.point z (span_piece u.0 u.1).rises b.is_point u.2 b.is.0 b.is.1
+      above = above_line (get_or ss u.0 nothing) b.point z (span_piece u.0 u.1).strand.rises b.is_point u.2 b.is.0 b.is.1
 
       below : above_span ss z v.0 <ℤ pos 0
-      below = below_line (get_or ss v.0 nothing) o.point z (span_piece v.0 v.1).rises o.is_point v.2 o.is.0 o.is.1
+      below = below_line (get_or ss v.0 nothing) o.point z (span_piece v.0 v.1).strand.rises o.is_point v.2 o.is.0 o.is.1
 
       by : DropsOrZero (length ss) (above_span ss z) → (i : ℕ) × (suc i < length ss) × InCell (get_or ls k nowhere) (get_or ls (suc k) nowhere) (get_or ss i nothing) (get_or ss (suc i) nothing) z
       by (inl (i, d)) = (i, d.within, record { after = inside.0; before = inside.1; above = d.above; below = d.below })
       by (inr (i, within, e)) =
           let q = span_piece i within in
-          absurd (touches slab.known q.has z hz (on_piece (get_or ls k nowhere) (get_or ls (suc k) nowhere) (get_or ss i nothing) left_point right_point q z hz (le_of_lt inside.0) (le_of_lt inside.1) e) clear)
+          absurd (touches slab.known q.has z hz (on_strand two_lines q.strand z hz (le_of_lt inside.0) (le_of_lt inside.1) e) clear)

@@ -53,7 +53,7 @@ module _ {sums : List (List Vector)} {room : Frame} {pieces : List Piece} {σ : 
   pub spot_inside : (lot : Lot) → IsLot σ lot → IsPoint (spot_of σ lot) × Holds σ lot (spot_of σ lot)
   spot_inside (cell k i) (hk, hi) =
       let slab = slab_at k hk in
-      cell_spot_inside (line_at σ k) (line_at σ (suc k)) (cells.left_point slab) (cells.right_point slab) (cells.wide slab) (span_at σ k i) (span_at σ k (suc i)) (span_piece slab i (omega arith)).rises (span_piece slab (suc i) hi).rises (slab.spans.order i (suc i) nothing (omega arith) hi)
+      cell_spot_inside (line_at σ k) (line_at σ (suc k)) (cells.two_lines slab) (span_at σ k i) (span_at σ k (suc i)) (span_piece slab i (omega arith)).strand.rises (span_piece slab (suc i) hi).strand.rises (slab.spans.order i (suc i) nothing (omega arith) hi)
   spot_inside (wall k j) (hk, hj) =
       let line = line_of k hk in
       wall_spot_inside (line_at σ k) (mark_at σ k j) (mark_at σ k (suc j)) line.point (walls.mark_point line j (omega arith)) (walls.mark_point line (suc j) hj) (line.marks.on_line j nowhere (omega arith)) (line.marks.on_line (suc j) nowhere hj) (line.marks.rising j (suc j) nowhere (omega arith) hj)

@@ -1,12 +1,11 @@
 -- The point by which a lot is tested is a point of it.
-use Rattle.std.proofs.Common.{◌≡◌, inl, inr, pos, ◌+ℤ◌, ◌-ℤ◌, ◌*ℤ◌, ◌<ℤ◌, [], ◌∷◌, ap, sym, ◌∙◌, subst, arith}
+use Rattle.std.proofs.Common.{◌≡◌, inl, inr, pos, ◌+ℤ◌, ◌-ℤ◌, ◌*ℤ◌, ◌<ℤ◌, [], ◌∷◌, ap, ◌∙◌, arith}
 use Rattle.plan_exact.specs.Expr.{con, neg, ◌⊕◌, ◌⊖◌, ◌⊗◌}
 use Rattle.plan_exact.specs.Vectors.{sum, scaled, env}
 use Rattle.plan_exact.specs.Formal as F
 use Rattle.plan_exact.specs.Formal.{A, B, C, D}
 use Rattle.plan_exact.proofs.Certificates.{lt_from, eq_from}
 use Rattle.plan_exact.proofs.Laws.{linear}
-use Rattle.plan_exact.proofs.Ring.{ring}
 use Rattle.plan_exact.proofs.RingVectors.{ring_vectors}
 use Rattle.plan_exact.proofs.Signs.{signs, zeros, mul_pos, mul_pos_neg, mul_of_zero, le_or_lt}
 use Rattle.plan_exact.proofs.Vectors.{det_combination_3}
@@ -14,21 +13,10 @@ use Rattle.plan_spec.specs.Vector.{Vector, IsPoint, LtX, LtY, SameX, turn}
 use Rattle.plan_spec.specs.Segment.{Segment}
 use Rattle.plan_spec.specs.Slabs.{InSlab, Below}
 use Rattle.plan_spec.specs.Regions.{InCell, InWall, mediant, foot, halfway, cell_spot}
-use Rattle.plan_plane.proofs.Rising.ByCoordinate.{order_x}
-use Rattle.plan_plane.proofs.Segment.Line.{right, formal_right}
-
--- ---- the foot of a point on a line
-abbrev foot_of : F.Vec
-foot_of = F.sum (F.scaled (B.x ⊗ C.w ⊖ C.x ⊗ B.w) A) (F.scaled (C.x ⊗ A.w ⊖ A.x ⊗ C.w) B)
-
-foot_w : (s : Segment) (z : Vector) → (foot s z).w ≡ right s.a s.b *ℤ z.w
-foot_w s z = ring (env [] (s.a ∷ s.b ∷ z ∷ [])) foot_of.w (formal_right A B ⊗ C.w) tt
-
-foot_x : (s : Segment) (z : Vector) → SameX (foot s z) z
-foot_x s z = ring (env [] (s.a ∷ s.b ∷ z ∷ [])) (foot_of.x ⊗ C.w) (C.x ⊗ foot_of.w) tt
-
-foot_line : (s : Segment) (z : Vector) → turn s.a s.b (foot s z) ≡ pos 0
-foot_line s z = ring (env [] (s.a ∷ s.b ∷ z ∷ [])) (F.det A B foot_of) F.zero tt
+use Rattle.plan_slab.specs.Levels.{run}
+use Rattle.plan_slab.proofs.Order.Across.{IsSlab}
+use Rattle.plan_slab.proofs.Order.Feet.{foot_point, foot_in_line}
+use Rattle.plan_slab.proofs.Order.OneOrder.{foot_inside}
 
 -- ---- halfway between two points
 halfway_is : (u v : Vector) → halfway u v ≡ sum (scaled v.w u) (scaled u.w v)
@@ -53,18 +41,13 @@ mediant_inside l r h = (
   lt_from (env [] (l ∷ r ∷ [])) (con (pos 1)) (B.x ⊗ A.w ⊖ A.x ⊗ B.w) ((A.x ⊕ B.x) ⊗ B.w) (B.x ⊗ (A.w ⊕ B.w)) tt (search signs) (search signs),
 )
 
-module _ (l r : Vector) (hl : IsPoint l) (hr : IsPoint r) (wide : LtX l r) where
-  m_point : IsPoint (mediant l r)
-  m_point = omega (arith, linear)
-
-  foot_inside : (s : Segment) → LtX s.a s.b → IsPoint (foot s (mediant l r)) × InSlab l r (foot s (mediant l r))
-  foot_inside s rises =
+module _ (l r : Vector) (slab : IsSlab l r) where
+  inside : (s : Segment) → LtX s.a s.b → IsPoint (foot s (mediant l r)) × InSlab l r (foot s (mediant l r))
+  inside s rises =
       let m = mediant l r in
-      let v = foot s m in
-      let run : pos 0 <ℤ right s.a s.b = omega (arith, linear) in
-      let hv : IsPoint v = subst (λ y. pos 0 <ℤ y) (sym (foot_w s m)) (mul_pos run m_point) in
-      let i = mediant_inside l r wide in
-      (hv, (order_x.less_equal l m v hl m_point hv i.0 (sym (foot_x s m)), order_x.equal_less v m r hv m_point hr (foot_x s m) i.1))
+      let hm : IsPoint m = let a = slab.left_point in let b = slab.right_point in omega (arith, linear) in
+      let runs : pos 0 <ℤ run s = omega (arith, linear) in
+      (foot_point s m runs hm, foot_inside l r s m slab runs hm (mediant_inside l r slab.wide))
 
   pub cell_spot_inside : (s t : Segment) → LtX s.a s.b → LtX t.a t.b → Below l r s t → IsPoint (cell_spot l r s t) × InCell l r s t (cell_spot l r s t)
   cell_spot_inside s t hs ht below = (
@@ -84,16 +67,16 @@ module _ (l r : Vector) (hl : IsPoint l) (hr : IsPoint r) (wide : LtX l r) where
       v = foot t (mediant l r)
 
       iu : IsPoint u × InSlab l r u
-      iu = foot_inside s hs
+      iu = inside s hs
 
       iv : IsPoint v × InSlab l r v
-      iv = foot_inside t ht
+      iv = inside t ht
 
       zu : turn s.a s.b u ≡ pos 0
-      zu = foot_line s (mediant l r)
+      zu = foot_in_line s (mediant l r)
 
       zv : turn t.a t.b v ≡ pos 0
-      zv = foot_line t (mediant l r)
+      zv = foot_in_line t (mediant l r)
 
       sv : pos 0 <ℤ turn s.a s.b v
       sv = below v iv.0 iv.1 (omega (arith, linear, zv))
