@@ -1,0 +1,140 @@
+-- The marks of one piece on a line are its heights there: the foot of the line where the piece is from left to right and the line in its range, both ends where it is upright and on the line.
+use Rattle.std.proofs.Common.{◌≡◌, ◌↔◌, ◌⊎◌, inl, inr, ⊎_elim, ℤ, pos, ◌-ℤ◌, ◌≤ℤ◌, ◌*ℤ◌, ◌<ℤ◌, Bool, true, false, ◌&&◌, cond, int_lt, int_le, List, [], ◌∷◌, All, Any, refl, sym, arith}
+use Rattle.std.specs.Ordering.{int_eq}
+use Rattle.std.proofs.lemmas.Bool.{and_parts, and_from}
+use Rattle.std.proofs.lemmas.Bool.Decides.{Decides-int_eq}
+use Rattle.std.proofs.lemmas.Int.{ints}
+use Rattle.std.proofs.lemmas.List.Elements.{All-nil, All-cons}
+use Rattle.plan_exact.specs.Expr.{◌⊕◌, ◌⊗◌, neg}
+use Rattle.plan_exact.specs.Formal as F
+use Rattle.plan_exact.specs.Formal.{A, B, C, D}
+use Rattle.plan_exact.specs.Vectors.{env}
+use Rattle.plan_exact.proofs.Certificates.{eq_from}
+use Rattle.plan_exact.proofs.Laws.{linear}
+use Rattle.plan_exact.proofs.Signs.{zeros, le_or_lt}
+use Rattle.plan_exact.proofs.Tests.{le_true, lt_from_true, le_from_false}
+use Rattle.plan_spec.specs.Vector.{Vector, IsPoint, LtX, LeX, SameX, SameY, Same, turn}
+use Rattle.plan_spec.specs.Segment.{HasPoints, On}
+use Rattle.plan_spec.specs.Pieces.{Piece}
+use Rattle.plan_spec.specs.Regions.{foot}
+use Rattle.plan_spec.specs.Slabs.{IsMark}
+use Rattle.plan_plane.proofs.Lists.{any_here, any_there, any_cases, any_none}
+use Rattle.plan_plane.proofs.Rising.ByCoordinate.{order_x}
+use Rattle.plan_plane.proofs.Segment.Between.{on, between_first, between_second}
+use Rattle.plan_plane.proofs.Segment.ByX.{leX_trans}
+use Rattle.plan_plane.proofs.Segment.Line.{formal_right, formal_above, on_line}
+use Rattle.plan_plane.proofs.Segment.Same.{on_same, Same-swapped}
+use Rattle.plan_slab.specs.Levels.{run, heights}
+use Rattle.plan_slab.proofs.Order.Feet.{foot_point, foot_same_x, foot_in_line}
+
+-- a point of the line l
+abbrev pub OnLine : Vector → Vector → Type 0
+OnLine l m = IsPoint m × SameX l m
+
+-- ms are the marks of the piece on l
+pub record PieceMarks (l : Vector) (p : Piece) (ms : List Vector) : Type 0 where
+  pub points : All (OnLine l) ms
+  pub exact : (z : Vector) → IsPoint z → SameX l z → IsMark z p ↔ Any (Same z) ms
+
+-- two points of a line that is not upright, of one x
+one_point : (a b u z : Vector) → LtX a b → turn a b u ≡ pos 0 → turn a b z ≡ pos 0 → SameX z u → SameY z u
+one_point a b u z lt hu hz e =
+    let r : pos 0 <ℤ (b.x *ℤ a.w -ℤ a.x *ℤ b.w) = omega (arith, linear) in
+    let d : z.x *ℤ u.w -ℤ u.x *ℤ z.w ≡ pos 0 = omega (arith, linear, e) in
+    eq_from (env [] (a ∷ b ∷ u ∷ z ∷ [])) (formal_right A B) (neg D.w ⊗ F.det A B C ⊕ C.w ⊗ F.det A B D ⊕ formal_above A B ⊗ formal_right C D) (D.y ⊗ C.w) (C.y ⊗ D.w) tt r (search zeros)
+
+le_from_true : (x y : ℤ) → int_le x y ≡ true → x ≤ℤ y
+le_from_true x y e = omega (arith, ints)
+
+module _ (l : Vector) (p : Piece) (hl : IsPoint l) (hp : HasPoints p.part) where
+  no_marks : ((z : Vector) → IsPoint z → SameX l z → ¬ (IsMark z p)) → PieceMarks l p []
+  no_marks off = record { points = All-nil (OnLine l); exact = λ z hz e. (λ h. absurd (off z hz e h), λ h. absurd (any_none (Same z) h)) }
+
+  -- ---- from left to right
+  on_piece : LtX p.part.a p.part.b → (z : Vector) → IsPoint z → IsMark z p → On p.part z
+  on_piece lt z hz (inl h) = on_same p.part.a p.part.b p.part.a z hp.0 hp.1 hp.0 hz (Same-swapped z p.part.a h) (on (between_first p.part.a p.part.b hp.0))
+  on_piece lt z hz (inr (inl h)) = on_same p.part.a p.part.b p.part.b z hp.0 hp.1 hp.1 hz (Same-swapped z p.part.b h) (on (between_second p.part.a p.part.b hp.1))
+  on_piece lt z hz (inr (inr h)) = h.1
+
+  -- the line is in its range
+  line_within : LtX p.part.a p.part.b → (z : Vector) → IsPoint z → SameX l z → On p.part z → LeX p.part.a l × LeX l p.part.b
+  line_within lt z hz e m =
+      let zl : LeX z l = omega (arith, linear) in
+      let lz : LeX l z = omega (arith, linear) in
+      let r = by m.within_x in
+      (leX_trans p.part.a z l hp.0 hz hl r.0 zl, leX_trans l z p.part.b hl hz hp.1 lz r.1)
+    where
+      by : (LeX p.part.a z × LeX z p.part.b) ⊎ (LeX p.part.b z × LeX z p.part.a) → LeX p.part.a z × LeX z p.part.b
+      by (inl h) = h
+      by (inr h) = absurd (omega (arith, linear, lt, leX_trans p.part.b z p.part.a hp.1 hz hp.0 h.0 h.1))
+
+  crossed : LtX p.part.a p.part.b → LeX p.part.a l → LeX l p.part.b → PieceMarks l p (foot p.part l ∷ [])
+  crossed lt low high = record {
+    points = All-cons (OnLine l) f [] (hf, sym (foot_same_x p.part l)) (All-nil (OnLine l));
+    exact = λ z hz e. (
+      λ h. any_here (Same z) (foot p.part l) [] (same z hz e (on_piece lt z hz h)),
+      λ h. ⊎_elim (λ k. inr (inr (lt, on_same p.part.a p.part.b (foot p.part l) z hp.0 hp.1 hf hz (Same-swapped z (foot p.part l) k) on_it))) (λ n. absurd (any_none (Same z) n)) (any_cases (Same z) (foot p.part l) [] h),
+    );
+  }
+    where
+      f : Vector
+      f = foot p.part l
+
+      runs : pos 0 <ℤ run p.part
+      runs = omega (arith, linear)
+
+      hf : IsPoint (foot p.part l)
+      hf = foot_point p.part l runs hl
+
+      on_it : On p.part (foot p.part l)
+      on_it =
+          let fl : LeX (foot p.part l) l = omega (arith, linear, foot_same_x p.part l) in
+          let lf : LeX l (foot p.part l) = omega (arith, linear, foot_same_x p.part l) in
+          on_line p.part.a p.part.b p.part.a p.part.b (foot p.part l) lt (on (between_first p.part.a p.part.b hp.0)).in_line (on (between_second p.part.a p.part.b hp.1)).in_line (foot_in_line p.part l)
+          (leX_trans p.part.a l (foot p.part l) hp.0 hl hf low lf) (leX_trans (foot p.part l) l p.part.b hf hl hp.1 fl high)
+
+      same : (z : Vector) → IsPoint z → SameX l z → On p.part z → Same z (foot p.part l)
+      same z hz e m =
+          let x : SameX z (foot p.part l) = order_x.trans z l (foot p.part l) hz hl hf (sym e) (sym (foot_same_x p.part l)) in
+          (x, one_point p.part.a p.part.b (foot p.part l) z lt (foot_in_line p.part l) m.in_line x)
+
+  -- ---- upright
+  upright : SameX p.part.a p.part.b → SameX p.part.a l → PieceMarks l p (p.part.a ∷ p.part.b ∷ [])
+  upright e at = record {
+    points = All-cons (OnLine l) p.part.a (p.part.b ∷ []) (hp.0, sym at) (All-cons (OnLine l) p.part.b [] (hp.1, order_x.trans l p.part.a p.part.b hl hp.0 hp.1 (sym at) e) (All-nil (OnLine l)));
+    exact = λ z hz f. (
+      λ h. ⊎_elim (any_here (Same z) p.part.a (p.part.b ∷ [])) (λ k. ⊎_elim (λ m. any_there (Same z) p.part.a (p.part.b ∷ []) (any_here (Same z) p.part.b [] m)) (λ m. absurd (order_x.apart p.part.a p.part.b hp.0 hp.1 m.0 e)) k) h,
+      λ h. ⊎_elim inl (λ k. ⊎_elim (λ m. inr (inl m)) (λ n. absurd (any_none (Same z) n)) (any_cases (Same z) p.part.b [] k)) (any_cases (Same z) p.part.a (p.part.b ∷ []) h),
+    );
+  }
+
+  aside : SameX p.part.a p.part.b → ¬ (SameX p.part.a l) → PieceMarks l p []
+  aside e off = no_marks by
+    where
+      by : (z : Vector) → IsPoint z → SameX l z → IsMark z p → ⊥
+      by z hz f (inl h) = off (order_x.trans p.part.a z l hp.0 hz hl (sym h.0) (sym f))
+      by z hz f (inr (inl h)) = off (order_x.trans p.part.a p.part.b l hp.0 hp.1 hl e (order_x.trans p.part.b z l hp.1 hz hl (sym h.0) (sym f)))
+      by z hz f (inr (inr h)) = order_x.apart p.part.a p.part.b hp.0 hp.1 h.0 e
+
+  -- ---- as it is computed
+  pub piece_heights : ¬ (LtX p.part.b p.part.a) → PieceMarks l p (heights l p)
+  piece_heights onward = by (int_lt (p.part.a.x *ℤ p.part.b.w) (p.part.b.x *ℤ p.part.a.w)) refl
+    where
+      ranged : LtX p.part.a p.part.b → (t : Bool) → (int_le (p.part.a.x *ℤ l.w) (l.x *ℤ p.part.a.w) && int_le (l.x *ℤ p.part.b.w) (p.part.b.x *ℤ l.w)) ≡ t → PieceMarks l p (cond t (foot p.part l ∷ []) [])
+      ranged lt true e = let r = and_parts _ _ e in crossed lt (le_from_true _ _ r.0) (le_from_true _ _ r.1)
+      ranged lt false e = no_marks (λ z hz f m. let r = line_within lt z hz f (on_piece lt z hz m) in let g = and_from _ _ (le_true r.0) (le_true r.1) in absurd (cc))
+
+      at_line : SameX p.part.a p.part.b → (t : Bool) → int_eq (p.part.a.x *ℤ l.w) (l.x *ℤ p.part.a.w) ≡ t → PieceMarks l p (cond t (p.part.a ∷ p.part.b ∷ []) [])
+      at_line same true e = upright same ((Decides-int_eq (p.part.a.x *ℤ l.w) (l.x *ℤ p.part.a.w)).0 e)
+      at_line same false e = aside same (λ f. let g = (Decides-int_eq (p.part.a.x *ℤ l.w) (l.x *ℤ p.part.a.w)).1 f in absurd (cc))
+
+      level : LeX p.part.b p.part.a → SameX p.part.a p.part.b
+      level h = elim (le_or_lt (p.part.a.x *ℤ p.part.b.w) (p.part.b.x *ℤ p.part.a.w)) [
+        | inl k ↦ omega (arith, linear)
+        | inr k ↦ absurd (onward k)
+      ]
+
+      by : (t : Bool) → int_lt (p.part.a.x *ℤ p.part.b.w) (p.part.b.x *ℤ p.part.a.w) ≡ t
+          → PieceMarks l p (cond t (cond (int_le (p.part.a.x *ℤ l.w) (l.x *ℤ p.part.a.w) && int_le (l.x *ℤ p.part.b.w) (p.part.b.x *ℤ l.w)) (foot p.part l ∷ []) []) (cond (int_eq (p.part.a.x *ℤ l.w) (l.x *ℤ p.part.a.w)) (p.part.a ∷ p.part.b ∷ []) []))
+      by true e = ranged (lt_from_true (p.part.a.x *ℤ p.part.b.w) (p.part.b.x *ℤ p.part.a.w) e) _ refl
+      by false e = at_line (level (le_from_false (p.part.a.x *ℤ p.part.b.w) (p.part.b.x *ℤ p.part.a.w) e)) _ refl
