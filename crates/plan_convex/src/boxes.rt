@@ -32,12 +32,12 @@ pub fn edge_bounds(a: Spot, b: Spot) -> Frame
 pub fn are_apart(f: Frame, g: Frame) -> bool
     ensures { IsTrue result ↔ AreApart f g }
 {
-    is_left_or_below(f.high, g.low) || is_left_or_below(g.high, f.low)
+    is_left_or_below(f.high, g.low) | is_left_or_below(g.high, f.low)
 }
 
 // Whether `p` is strictly left of `q`, or strictly below it.
 fn is_left_or_below(p: Spot, q: Spot) -> bool
     ensures { IsTrue result ↔ IsLeftOrBelow p q }
 {
-    p.x < q.x || p.y < q.y
+    (p.x < q.x) | (p.y < q.y)
 }
