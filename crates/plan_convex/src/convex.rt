@@ -1,11 +1,13 @@
-ghost use Rattle.std.specs.Prelude.{◌≡◌, pos, ◌<ℤ◌, ◌≤◌, ◌↔◌, length, All, Any, IsTrue};
+ghost use Rattle.std.specs.Prelude.{◌≡◌, pos, ◌<ℤ◌, ◌≤◌, ◌^◌, ◌↔◌, length, All, Any, IsTrue};
 ghost use Rattle.plan_spec.specs.Vector.{turn};
 ghost use Rattle.plan_spec.specs.Segment.{AnyOn, segment};
 ghost use Rattle.plan_spec.specs.Polygon.{AreRight, IsConvex, Inside, edges};
+ghost use Rattle.plan_grid.specs.Bounds.{IsBounded};
 ghost use Rattle.plan_grid.specs.Order.{IsSign};
 ghost use Rattle.plan_grid.specs.Spot.{spot_seen, spots_seen, edge_seen, IsWithin};
 ghost use Rattle.plan_convex.specs.Convex.{IsPolygon};
 
+use crate::triple::Triple;
 use crate::vertices::Vertices;
 use plan_grid::{MOST_COORDINATE, Point, Spot, orientation_at, side_of};
 use std::cmp::Ordering;
@@ -56,6 +58,21 @@ impl Convex {
         let spots = self.vertices.as_slice();
         for i in 0..spots.len() {
             if is_right(spots[i], spots[(i + 1) % spots.len()], z) {
+                return false;
+            }
+        }
+        true
+    }
+
+    /// The same of a point that need not be in lowest terms, of a weight of at most 2^100 and coordinates of at most
+    /// 2046 in absolute value.
+    pub fn holds_at(&self, z: Triple) -> bool
+        requires { IsBounded (2 ^ 100) z }
+        ensures { IsTrue result ↔ Inside (spots_seen self.now) z }
+    {
+        let spots = self.spots();
+        for i in 0..spots.len() {
+            if z.is_right(spots[i], spots[(i + 1) % spots.len()]) {
                 return false;
             }
         }

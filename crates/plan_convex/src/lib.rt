@@ -13,6 +13,7 @@ mod part;
 mod piece;
 #[cfg(test)]
 mod tests;
+mod triple;
 mod vertices;
 mod walk;
 
@@ -24,3 +25,4 @@ pub use numbering::{edge_count, edge_of};
 pub use parameter::Parameter;
 pub use part::Part;
 pub use piece::{Piece, Pieces};
+pub use triple::{Triple, x_of, y_of};
