@@ -2,3 +2,4 @@
 pub mod Lines
 pub mod Heights
 pub mod Marks
+pub mod Size
