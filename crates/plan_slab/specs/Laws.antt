@@ -1,12 +1,15 @@
 -- The laws of slabs and regions.
-use Rattle.std.specs.Prelude.{◌↔◌, ℕ, suc, ◌<◌, List, length}
-use Rattle.plan_spec.specs.Vector.{Vector, IsPoint, LtX, LtY}
+use Rattle.std.specs.Prelude.{◌≡◌, ◌⊎◌, ◌↔◌, ℕ, suc, ◌<◌, ◌≤◌, List, length, Any}
+use Rattle.plan_spec.specs.Vector.{Vector, IsPoint, LeX, LtX, LtY, SameX, Same}
+use Rattle.plan_spec.specs.Segment.{HasPoints, On}
 use Rattle.plan_spec.specs.Frame.{Frame}
-use Rattle.plan_spec.specs.Boundary.{IsClearOf}
+use Rattle.plan_spec.specs.Boundary.{IsUncovered, IsClearOf, boundary}
 use Rattle.plan_spec.specs.Pieces.{Piece, IsBoundaryOf}
-use Rattle.plan_spec.specs.Slabs.{Slabs, AreSlabs}
+use Rattle.plan_spec.specs.Slabs.{Slabs, line_at, spans_of, span_at, marks_of, AreSlabs}
+use Rattle.plan_spec.specs.Reply.{IsTight}
 use Rattle.plan_spec.specs.Regions.{Lot, wall, Holds, IsLot, spot_of, AreRegions, IsIn}
 use Rattle.plan_plane.proofs.Boundary.Floor.{IsFloor}
+use Rattle.plan_slab.specs.Meets.{meets, MeetsMark, IsSloped}
 
 -- the slabs of the pieces that convex sums and a room leave
 pub record AreSlabsOf (sums : List (List Vector)) (room : Frame) (pieces : List Piece) (σ : Slabs) : Type 0 where
@@ -35,3 +38,21 @@ InnerWalls =
 abbrev pub ProperRoom : Type 0
 ProperRoom =
     (sums : List (List Vector)) (room : Frame) (pieces : List Piece) (σ : Slabs) (found : List Lot) → AreSlabsOf sums room pieces σ → AreRegions sums room σ found → 0 < length found → LtX room.low room.high × LtY room.low room.high
+
+-- each span meets both lines of its slab in a mark, the line h being one of the two, and of two neighbours the lower one in no higher mark
+abbrev pub SpansMeet : Type 0
+SpansMeet =
+    (sums : List (List Vector)) (room : Frame) (pieces : List Piece) (σ : Slabs) → AreSlabsOf sums room pieces σ → (k h i : ℕ) → k < length σ.spans → (h ≡ k) ⊎ (h ≡ suc k)
+    → (i < length (spans_of σ k) → MeetsMark (span_at σ k i) (marks_of σ h)) × (suc i < length (spans_of σ k) → meets (span_at σ k i) (marks_of σ h) ≤ meets (span_at σ k (suc i)) (marks_of σ h))
+
+-- each span is from left to right, from a line or before it to the next or beyond it, and no point of it is clear, as both ends are in one sum or beyond one side of the room
+abbrev pub SpansTight : Type 0
+SpansTight =
+    (sums : List (List Vector)) (room : Frame) (pieces : List Piece) (σ : Slabs) → AreSlabsOf sums room pieces σ → (k i : ℕ) → k < length σ.spans → i < length (spans_of σ k)
+    → HasPoints (span_at σ k i) × LtX (span_at σ k i).a (span_at σ k i).b × LeX (span_at σ k i).a (line_at σ k) × LeX (line_at σ (suc k)) (span_at σ k i).b × IsTight sums room (span_at σ k i)
+
+-- what no sum covers of an edge that is not upright is on a line a mark of the line
+abbrev pub MarkRule : Type 0
+MarkRule =
+    (sums : List (List Vector)) (room : Frame) (pieces : List Piece) (σ : Slabs) → AreSlabsOf sums room pieces σ → (k : ℕ) → k < length σ.marks → (z : Vector) → IsPoint z → SameX z (line_at σ k)
+    → IsUncovered sums room z → Any (λ e. IsSloped e × On e z) (boundary sums room) → Any (Same z) (marks_of σ k)

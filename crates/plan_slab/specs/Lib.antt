@@ -1,3 +1,4 @@
 pub mod Levels
 pub mod FirstSlabs
 pub mod Laws
+pub mod Meets

@@ -1,6 +1,6 @@
 //! The laws of slabs and regions. The functions do nothing: their contracts are the laws.
 
-ghost use Rattle.plan_slab.specs.Laws.{OneKind, ExactlyOne, InnerWalls, ProperRoom};
+ghost use Rattle.plan_slab.specs.Laws.{OneKind, ExactlyOne, InnerWalls, ProperRoom, SpansMeet, SpansTight, MarkRule};
 
 /// Each cell and each wall is clear at each of its points or at none, so the one point by which it is tested decides.
 pub fn one_kind()
@@ -20,4 +20,19 @@ pub fn inner_walls()
 /// A room without width or without height has no region.
 pub fn proper_room()
     ensures { ProperRoom }
+{}
+
+/// Each span meets both lines of its slab in a mark, and of two neighbours the lower one in no higher mark.
+pub fn spans_meet()
+    ensures { SpansMeet }
+{}
+
+/// Each span goes across its slab from left to right, and touches everywhere.
+pub fn spans_tight()
+    ensures { SpansTight }
+{}
+
+/// What no sum covers of an edge that is not upright is a mark where it meets a line.
+pub fn mark_rule()
+    ensures { MarkRule }
 {}
