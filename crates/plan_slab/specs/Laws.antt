@@ -1,5 +1,5 @@
 -- The laws of slabs and regions.
-use Rattle.std.specs.Prelude.{◌≡◌, ◌⊎◌, ◌↔◌, ℕ, suc, ◌<◌, ◌≤◌, List, length, Any}
+use Rattle.std.specs.Prelude.{◌≡◌, ◌⊎◌, ◌↔◌, ℕ, suc, ◌<◌, ◌≤◌, List, length, Any, Contains}
 use Rattle.plan_spec.specs.Vector.{Vector, IsPoint, LeX, LtX, LtY, SameX, Same}
 use Rattle.plan_spec.specs.Segment.{HasPoints, On}
 use Rattle.plan_spec.specs.Frame.{Frame}
@@ -7,8 +7,9 @@ use Rattle.plan_spec.specs.Boundary.{IsUncovered, IsClearOf, boundary}
 use Rattle.plan_spec.specs.Pieces.{Piece, IsBoundaryOf}
 use Rattle.plan_spec.specs.Slabs.{Slabs, line_at, spans_of, span_at, marks_of, AreSlabs}
 use Rattle.plan_spec.specs.Reply.{IsTight}
-use Rattle.plan_spec.specs.Regions.{Lot, wall, Holds, IsLot, spot_of, AreRegions, IsIn}
+use Rattle.plan_spec.specs.Regions.{Lot, wall, Holds, IsLot, spot_of, AreRegions, region_at, IsIn}
 use Rattle.plan_plane.proofs.Boundary.Floor.{IsFloor}
+use Rattle.plan_slab.specs.LotOrder.{Earlier}
 use Rattle.plan_slab.specs.Meets.{meets, MeetsMark, IsSloped}
 
 -- the slabs of the pieces that convex sums and a room leave
@@ -28,6 +29,18 @@ abbrev pub ExactlyOne : Type 0
 ExactlyOne =
     (sums : List (List Vector)) (room : Frame) (pieces : List Piece) (σ : Slabs) (found : List Lot) → AreSlabsOf sums room pieces σ → AreRegions sums room σ found
     → (z : Vector) → IsPoint z → IsClearOf sums room z ↔ ((n : ℕ) × IsIn σ found z n)
+
+-- a cell or wall that is no region is clear nowhere
+abbrev pub OthersTouch : Type 0
+OthersTouch =
+    (sums : List (List Vector)) (room : Frame) (pieces : List Piece) (σ : Slabs) (found : List Lot) → AreSlabsOf sums room pieces σ → AreRegions sums room σ found
+    → (lot : Lot) → IsLot σ lot → ¬ (Contains found lot) → (z : Vector) → IsPoint z → Holds σ lot z → ¬ (IsClearOf sums room z)
+
+-- each region is a cell or a wall, and they are numbered in their order
+abbrev pub InOrder : Type 0
+InOrder =
+    (sums : List (List Vector)) (room : Frame) (pieces : List Piece) (σ : Slabs) (found : List Lot) → AreSlabsOf sums room pieces σ → AreRegions sums room σ found
+    → (m n : ℕ) → m < length found → n < length found → IsLot σ (region_at found n) × ((m < n) ↔ Earlier (region_at found m) (region_at found n))
 
 -- a wall with a clear point is neither on the first line nor on the last
 abbrev pub InnerWalls : Type 0

@@ -2,3 +2,4 @@ pub mod Levels
 pub mod FirstSlabs
 pub mod Laws
 pub mod Meets
+pub mod LotOrder

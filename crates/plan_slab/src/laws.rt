@@ -1,6 +1,6 @@
 //! The laws of slabs and regions. The functions do nothing: their contracts are the laws.
 
-ghost use Rattle.plan_slab.specs.Laws.{OneKind, ExactlyOne, InnerWalls, ProperRoom, SpansMeet, SpansTight, MarkRule};
+ghost use Rattle.plan_slab.specs.Laws.{OneKind, ExactlyOne, OthersTouch, InOrder, InnerWalls, ProperRoom, SpansMeet, SpansTight, MarkRule};
 
 /// Each cell and each wall is clear at each of its points or at none, so the one point by which it is tested decides.
 pub fn one_kind()
@@ -10,6 +10,16 @@ pub fn one_kind()
 /// A point is clear exactly where it is in exactly one region.
 pub fn exactly_one()
     ensures { ExactlyOne }
+{}
+
+/// A cell or wall that is no region is clear nowhere.
+pub fn others_touch()
+    ensures { OthersTouch }
+{}
+
+/// Regions are numbered from left to right, and in a slab or on a line from below.
+pub fn in_order()
+    ensures { InOrder }
 {}
 
 /// The first line and the last one have no free wall.

@@ -1,5 +1,5 @@
 -- Every lot is of one kind, and every clear point is in exactly one lot, so in exactly one region.
-use Rattle.std.proofs.Common.{◌≡◌, inl, inr, ℕ, zero, suc, ◌<◌, pos, List, length, Any, sym, ap₂, subst, arith}
+use Rattle.std.proofs.Common.{◌≡◌, ◌↔◌, inl, inr, ℕ, zero, suc, ◌<◌, pos, List, length, Any, sym, ap₂, subst, arith}
 use Rattle.plan_exact.proofs.Laws.{linear}
 use Rattle.plan_spec.specs.Vector.{Vector, IsPoint}
 use Rattle.plan_spec.specs.Frame.{Frame}
@@ -57,6 +57,12 @@ module _ {sums : List (List Vector)} {room : Frame} {pieces : List Piece} {σ : 
   spot_inside (wall k j) (hk, hj) =
       let line = line_of k hk in
       wall_spot_inside (line_at σ k) (mark_at σ k j) (mark_at σ k (suc j)) line.point (walls.mark_point line j (omega arith)) (walls.mark_point line (suc j) hj) (line.marks.on_line j nowhere (omega arith)) (line.marks.on_line (suc j) nowhere hj) (line.marks.rising j (suc j) nowhere (omega arith) hj)
+
+  -- so any of its points tells of that one
+  pub decides : (lot : Lot) → IsLot σ lot → (z : Vector) → IsPoint z → Holds σ lot z → IsClearOf sums room z ↔ IsClearOf sums room (spot_of σ lot)
+  decides lot is z hz holds =
+      let s = spot_inside lot is in
+      (λ clear. one_kind lot is z (spot_of σ lot) hz s.0 holds s.1 clear, λ clear. one_kind lot is (spot_of σ lot) z s.0 hz s.1 holds clear)
 
   -- ---- in one at most
   cell_slab : (k i : ℕ) (z : Vector) → IsLot σ (cell k i) → Holds σ (cell k i) z → DropsAt (length σ.lines) (right_of σ.lines z) k

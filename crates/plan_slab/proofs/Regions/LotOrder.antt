@@ -5,21 +5,11 @@ use Rattle.std.proofs.lemmas.List.Elements.{All-nil, All-cons, All-head, All-tai
 use Rattle.std.proofs.lemmas.List.FromFn.{get_or-range_with_len, length-range_with_len, get_or-map-range_with_len, length-map-range_with_len}
 use Rattle.plan_spec.specs.Slabs.{Slabs, spans_of, marks_of}
 use Rattle.plan_spec.specs.Regions.{Lot, cell, wall, cells, walls, lots, Kept, none, keep, drop}
+use Rattle.plan_slab.specs.LotOrder.{rank, index, Earlier}
 use Rattle.plan_plane.proofs.Lists.{any_here, any_there, any_none, any_cases, any_left, any_right, any_flat, all_flat}
 use Rattle.plan_plane.proofs.Pairs.{Pairs, pairs_from, pairs_join}
 
--- ---- the order: by slab and line, then from below
-abbrev pub rank : Lot → ℕ
-rank (cell k i) = 2 * k + 1
-rank (wall k i) = 2 * k
-
-abbrev pub index : Lot → ℕ
-index (cell k i) = i
-index (wall k i) = i
-
-pub record Earlier (a b : Lot) : Type 0 where
-  pub earlier : (rank a < rank b) ⊎ ((rank a ≡ rank b) × (index a < index b))
-
+-- ---- the order
 pub differs : {a b : Lot} → Earlier a b → ¬ (a ≡ b)
 differs {a} {b} h e = by h.earlier
   where
@@ -32,6 +22,15 @@ differs {a} {b} h e = by h.earlier
     by : (rank a < rank b) ⊎ ((rank a ≡ rank b) × (index a < index b)) → ⊥
     by (inl lt) = omega (arith, r)
     by (inr lt) = omega (arith, lt.1, i)
+
+pub not_both : {a b : Lot} → Earlier a b → ¬ (Earlier b a)
+not_both {a} {b} h k = by h.earlier k.earlier
+  where
+    by : (rank a < rank b) ⊎ ((rank a ≡ rank b) × (index a < index b)) → (rank b < rank a) ⊎ ((rank b ≡ rank a) × (index b < index a)) → ⊥
+    by (inl p) (inl q) = omega (arith, p, q)
+    by (inl p) (inr q) = omega (arith, p, q.0)
+    by (inr p) (inl q) = omega (arith, p.0, q)
+    by (inr p) (inr q) = omega (arith, p.1, q.1)
 
 -- ---- lots of one rank
 row_all : (P : Lot → Type 0) (f : ℕ → Lot) (n : ℕ) → ((i : ℕ) → i < n → P (f i)) → All P (map f (range_with_len 0 n))

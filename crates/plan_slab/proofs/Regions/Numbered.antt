@@ -1,5 +1,5 @@
 -- Regions by their numbers: each is a lot, all its points are clear, each clear point is in exactly one, and a lot that is none is clear nowhere.
-use Rattle.std.proofs.Common.{◌≡◌, inl, inr, ℕ, ◌<◌, List, length, Any, sym, subst, arith}
+use Rattle.std.proofs.Common.{◌≡◌, ◌↔◌, ◌⊎◌, inl, inr, ℕ, ◌<◌, List, length, Any, Contains, sym, ap, ◌∙◌, subst, arith}
 use Rattle.std.proofs.lemmas.Bool.{cases_order}
 use Rattle.std.proofs.lemmas.List.{get_or_default}
 use Rattle.plan_exact.proofs.Laws.{linear}
@@ -12,10 +12,11 @@ use Rattle.plan_spec.specs.Regions.{Lot, cell, Holds, IsLot, spot_of, lots, AreR
 use Rattle.plan_plane.proofs.Lists.{any_weaker}
 use Rattle.plan_plane.proofs.Pairs.{pairs_at}
 use Rattle.plan_plane.proofs.Rising.ByCoordinate.{order_x, order_y}
+use Rattle.plan_slab.specs.LotOrder.{Earlier}
 use Rattle.plan_slab.proofs.Regions.StraightWays.{beyond}
 use Rattle.plan_slab.proofs.ByNumber.{at_number}
-use Rattle.plan_slab.proofs.Regions.ExactlyOne.{KnownSlabs, one_kind, spot_inside, once, listed}
-use Rattle.plan_slab.proofs.Regions.LotOrder.{Earlier, differs, lots_rise, all_lots, kept_all, kept_has, kept_any, kept_pairs}
+use Rattle.plan_slab.proofs.Regions.ExactlyOne.{KnownSlabs, decides, spot_inside, once, listed}
+use Rattle.plan_slab.proofs.Regions.LotOrder.{differs, not_both, lots_rise, all_lots, kept_all, kept_has, kept_any, kept_pairs}
 
 module _ {sums : List (List Vector)} {room : Frame} {pieces : List Piece} {σ : Slabs} {found : List Lot} (map : KnownSlabs sums room pieces σ) (regions : AreRegions sums room σ found) where
   pub is_lot : (n : ℕ) → n < length found → IsLot σ (region_at found n)
@@ -40,15 +41,12 @@ module _ {sums : List (List Vector)} {room : Frame} {pieces : List Piece} {σ : 
 
   pub region_clear : (n : ℕ) (z : Vector) → n < length found → IsPoint z → Holds σ (region_at found n) z → IsClearOf sums room z
   region_clear n z within hz holds =
-      let lot = region_at found n in
-      let s = spot_inside map lot (is_lot n within) in
-      one_kind map lot (is_lot n within) (spot_of σ lot) z s.0 hz s.1 holds (spot_clear n within)
+      (decides map (region_at found n) (is_lot n within) z hz holds).1 (spot_clear n within)
 
   -- the number of a listed lot with a clear point
   number : (lot : Lot) (z : Vector) → IsPoint z → IsLot σ lot → Holds σ lot z → Any (λ b. b ≡ lot) (lots σ) → IsClearOf sums room z → (n : ℕ) × (n < length found) × (region_at found n ≡ lot)
   number lot z hz is holds among clear =
-      let s = spot_inside map lot is in
-      let free = one_kind map lot is z (spot_of σ lot) hz s.0 holds s.1 clear in
+      let free = (decides map lot is z hz holds).0 clear in
       at_number (λ b. b ≡ lot) found (cell 0 0) (kept_any (λ b. b ≡ lot) regions (any_weaker (λ b. b ≡ lot) (λ b. (b ≡ lot) × IsClearOf sums room (spot_of σ b)) (λ b e. (e, subst (λ a. IsClearOf sums room (spot_of σ a)) (sym e) free)) (lots σ) among))
 
   pub exactly_one : (z : Vector) → IsPoint z → IsClearOf sums room z → (n : ℕ) × IsIn σ found z n
@@ -64,10 +62,19 @@ module _ {sums : List (List Vector)} {room : Frame} {pieces : List Piece} {σ : 
       )
 
   -- what is no region touches throughout
-  pub other_touches : (lot : Lot) (z : Vector) → IsPoint z → IsLot σ lot → Holds σ lot z → ¬ (Any (λ b. b ≡ lot) found) → ¬ (IsClearOf sums room z)
+  pub other_touches : (lot : Lot) (z : Vector) → IsPoint z → IsLot σ lot → Holds σ lot z → ¬ (Contains found lot) → ¬ (IsClearOf sums room z)
   other_touches lot z hz is holds out clear =
       let (n, h) = exactly_one z hz clear in
-      out (n, region_at found n, h.is_region, get_or_default found n (region_at found n) (cell 0 0) h.is_region, once map (region_at found n) lot z hz (is_lot n h.is_region) is h.holds holds)
+      let e = once map (region_at found n) lot z hz (is_lot n h.is_region) is h.holds holds in
+      out (n, h.is_region, get_or_default found n lot (cell 0 0) h.is_region ∙ e)
+
+  pub in_order : (m n : ℕ) → m < length found → n < length found → (m < n) ↔ Earlier (region_at found m) (region_at found n)
+  in_order m n hm hn = (λ less. rising m n less hn, by (cases_order m n))
+    where
+      by : (m ≡ n) ⊎ ((m < n) ⊎ (n < m)) → Earlier (region_at found m) (region_at found n) → m < n
+      by (inl e) h = absurd (differs h (ap (region_at found) e))
+      by (inr (inl less)) h = less
+      by (inr (inr more)) h = absurd (not_both h (rising n m more hm))
 
   -- a clear point is strictly within the room
   pub proper : 0 < length found → LtX room.low room.high × LtY room.low room.high
