@@ -3,3 +3,4 @@ pub mod Lines
 pub mod Heights
 pub mod Marks
 pub mod Size
+pub mod Exist
