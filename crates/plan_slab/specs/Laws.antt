@@ -5,11 +5,12 @@ use Rattle.plan_spec.specs.Segment.{HasPoints, On}
 use Rattle.plan_spec.specs.Frame.{Frame}
 use Rattle.plan_spec.specs.Boundary.{IsUncovered, IsClearOf, boundary}
 use Rattle.plan_spec.specs.Pieces.{Piece, IsBoundaryOf}
-use Rattle.plan_spec.specs.Slabs.{Slabs, line_at, spans_of, span_at, marks_of, AreSlabs}
+use Rattle.plan_spec.specs.Slabs.{Slabs, line_at, spans_of, span_at, marks_of, AreSlabs, piece_at, InSlab, Reaches, LiesOn, Below, size}
 use Rattle.plan_spec.specs.Reply.{IsTight}
 use Rattle.plan_spec.specs.Regions.{Lot, wall, Holds, IsLot, spot_of, AreRegions, region_at, IsIn}
 use Rattle.plan_plane.proofs.Boundary.Floor.{IsFloor}
 use Rattle.plan_slab.specs.LotOrder.{Earlier}
+use Rattle.plan_slab.specs.Levels.{Lower, Level, strand}
 use Rattle.plan_slab.specs.Meets.{meets, MeetsMark, IsSloped}
 
 -- the slabs of the pieces that convex sums and a room leave
@@ -69,3 +70,19 @@ abbrev pub MarkRule : Type 0
 MarkRule =
     (sums : List (List Vector)) (room : Frame) (pieces : List Piece) (σ : Slabs) → AreSlabsOf sums room pieces σ → (k : ℕ) → k < length σ.marks → (z : Vector) → IsPoint z → SameX z (line_at σ k)
     → IsUncovered sums room z → Any (λ e. IsSloped e × On e z) (boundary sums room) → Any (Same z) (marks_of σ k)
+
+-- of two pieces that go across a slab, heights at one point of it decide: the lower one is below the other throughout, and where they are level the one lies along the other
+abbrev pub OneOrder : Type 0
+OneOrder =
+    (sums : List (List Vector)) (room : Frame) (pieces : List Piece) → IsFloor sums room → IsBoundaryOf sums room pieces → (l r m : Vector) → IsPoint l → IsPoint r → IsPoint m → InSlab l r m
+    → (i j : ℕ) → i < length pieces → j < length pieces → Reaches l r (piece_at pieces i) → Reaches l r (piece_at pieces j)
+    → (Lower m (strand sums room (piece_at pieces i)) (strand sums room (piece_at pieces j)) → Below l r (strand sums room (piece_at pieces i)) (strand sums room (piece_at pieces j)))
+    × (Level m (strand sums room (piece_at pieces i)) (strand sums room (piece_at pieces j)) → LiesOn (strand sums room (piece_at pieces i)) (piece_at pieces j))
+
+-- pieces have slabs, and slabs have regions
+abbrev pub SlabsExist : Type 0
+SlabsExist = (sums : List (List Vector)) (room : Frame) (pieces : List Piece) → IsFloor sums room → IsBoundaryOf sums room pieces → (σ : Slabs) × (found : List Lot) × AreSlabsOf sums room pieces σ × AreRegions sums room σ found
+
+-- all slabs of the same pieces have one size
+abbrev pub OneSize : Type 0
+OneSize = (sums : List (List Vector)) (room : Frame) (pieces : List Piece) (σ τ : Slabs) → AreSlabsOf sums room pieces σ → AreSlabsOf sums room pieces τ → size σ ≡ size τ

@@ -1,6 +1,22 @@
 //! The laws of slabs and regions. The functions do nothing: their contracts are the laws.
 
-ghost use Rattle.plan_slab.specs.Laws.{OneKind, ExactlyOne, OthersTouch, InOrder, InnerWalls, ProperRoom, SpansMeet, SpansTight, MarkRule};
+ghost use Rattle.plan_slab.specs.Laws.{OneOrder, SlabsExist, OneSize, OneKind, ExactlyOne, OthersTouch, InOrder, InnerWalls, ProperRoom, SpansMeet, SpansTight, MarkRule};
+
+/// Of two pieces that go across a slab the one is below the other throughout, or they lie on one line, and their heights
+/// at any one point of the slab tell which.
+pub fn one_order()
+    ensures { OneOrder }
+{}
+
+/// Each list of pieces has slabs, and these have regions, so what is said of all slabs of some pieces is said of some.
+pub fn slabs_exist()
+    ensures { SlabsExist }
+{}
+
+/// All slabs of the same pieces have one size.
+pub fn one_size()
+    ensures { OneSize }
+{}
 
 /// Each cell and each wall is clear at each of its points or at none, so the one point by which it is tested decides.
 pub fn one_kind()
