@@ -3,3 +3,4 @@ pub mod FirstSlabs
 pub mod Laws
 pub mod Meets
 pub mod LotOrder
+pub mod Near
