@@ -1,6 +1,6 @@
 -- Triangles of spots.
-use Rattle.std.specs.Prelude.{◌≡◌, ◌≢◌, ℤ, pos, ◌<ℤ◌, ◌⊎◌, List, [], ◌∷◌, length, All}
-use Rattle.plan_spec.specs.Vector.{turn}
+use Rattle.std.specs.Prelude.{◌≡◌, ◌≢◌, ℤ, pos, ◌<ℤ◌, ◌⊎◌, List, [], ◌∷◌, length, All, int_lt, if◌then◌else◌}
+use Rattle.plan_spec.specs.Vector.{Vector, turn}
 use Rattle.plan_grid.specs.declared.bounds.TheConstants.{MOST_CORNER}
 use Rattle.plan_grid.specs.declared.spot.Spot.{Spot}
 use Rattle.plan_grid.specs.Spot.{spot_seen, IsWithin}
@@ -29,3 +29,8 @@ IsRotation (a ∷ b ∷ c ∷ []) rotated =
     ⊎ ((rotated ≡ b ∷ c ∷ a ∷ [])
     ⊎ (rotated ≡ c ∷ a ∷ b ∷ []))
 IsRotation _ rotated = ⊥
+
+-- the vertices of a triangle counterclockwise, from the first one on; no other list is a triangle
+abbrev pub counterclockwise_triangle : List Vector → List Vector
+counterclockwise_triangle (a ∷ b ∷ c ∷ []) = if int_lt (turn a b c) (pos 0) then a ∷ c ∷ b ∷ [] else a ∷ b ∷ c ∷ []
+counterclockwise_triangle _ = []

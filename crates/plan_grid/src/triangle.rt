@@ -1,8 +1,8 @@
 ghost use Rattle.std.specs.Prelude.{◌≡◌, ◌↔◌, IsTrue};
 ghost use Rattle.plan_spec.specs.Vector.{Before};
-ghost use Rattle.plan_spec.specs.Polygon.{IsFromLeast, counterclockwise_triangle};
+ghost use Rattle.plan_spec.specs.Polygon.{IsFromLeast};
 ghost use Rattle.plan_grid.specs.Spot.{spot_seen, spots_seen};
-ghost use Rattle.plan_grid.specs.Triangle.{IsTriangle, IsCounterclockwise, IsRotation};
+ghost use Rattle.plan_grid.specs.Triangle.{IsTriangle, IsCounterclockwise, IsRotation, counterclockwise_triangle};
 
 use crate::sides::orientation;
 use crate::spot::Spot;

@@ -7,3 +7,4 @@ pub mod Orders
 pub mod Side
 pub mod Triangle
 pub mod ThreeSides
+pub mod Box

@@ -3,3 +3,4 @@ pub mod Loop
 pub mod FromLeast
 pub mod Meets
 pub mod Spots
+pub mod Leaving

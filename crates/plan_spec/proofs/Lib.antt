@@ -1,4 +1,5 @@
 mod Rows
 mod Boundaries
 mod Polygons
+mod Placements
 mod SlabRows

@@ -5,7 +5,7 @@ use Rattle.std.proofs.lemmas.List.Elements.{All-nil, All-cons}
 use Rattle.plan_spec.specs.Vector.{Vector, spot, turn, minus, Same, Before}
 use Rattle.plan_spec.specs.Segment.{Segment, segment, On, Common}
 use Rattle.plan_spec.specs.Parity.{parity, counted}
-use Rattle.plan_spec.specs.Polygon.{counterclockwise_triangle, edges}
+use Rattle.plan_spec.specs.Polygon.{edges}
 use Rattle.plan_spec.specs.Frame.{Frame, OnOrBeyond}
 use Rattle.plan_spec.specs.Placement.{Scene}
 use Rattle.plan_spec.specs.Chain.{odd_end}
@@ -101,13 +101,6 @@ joined : Common (flat (pos 0) (pos 0) (pos 4) (pos 4)) (flat (pos 4) (pos 4) (po
 joined = (spot (pos 4) (pos 4), lt_z_yes tt, record { in_line = refl; within_x = inl (le_z_yes tt, le_z_yes tt); within_y = inl (le_z_yes tt, le_z_yes tt) }, record { in_line = refl; within_x = inl (le_z_yes tt, le_z_yes tt); within_y = inr (le_z_yes tt, le_z_yes tt) })
 
 -- ---- polygons
--- a triangle in either direction of turning; no other list is one
-turned : counterclockwise_triangle (spot (pos 0) (pos 0) ∷ spot (pos 0) (pos 1) ∷ spot (pos 1) (pos 0) ∷ []) ≡ spot (pos 0) (pos 0) ∷ spot (pos 1) (pos 0) ∷ spot (pos 0) (pos 1) ∷ []
-turned = refl
-
-no_triangle : counterclockwise_triangle (spot (pos 0) (pos 0) ∷ spot (pos 0) (pos 1) ∷ []) ≡ []
-no_triangle = refl
-
 -- three vertices have three edges, the last back to the first
 three_edges : edges (spot (pos 0) (pos 0) ∷ spot (pos 1) (pos 0) ∷ spot (pos 0) (pos 1) ∷ []) ≡ flat (pos 0) (pos 0) (pos 1) (pos 0) ∷ flat (pos 1) (pos 0) (pos 0) (pos 1) ∷ flat (pos 0) (pos 1) (pos 0) (pos 0) ∷ []
 three_edges = refl

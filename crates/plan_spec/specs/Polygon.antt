@@ -1,5 +1,5 @@
 -- Lists of vertices, their edges, and what they hold.
-use Rattle.std.specs.Prelude.{pos, ◌<ℤ◌, ◌≤ℤ◌, ◌⊎◌, List, [], ◌∷◌, All, AllPairs, int_lt, if◌then◌else◌}
+use Rattle.std.specs.Prelude.{pos, ◌<ℤ◌, ◌≤ℤ◌, ◌⊎◌, List, [], ◌∷◌, All, AllPairs}
 use Rattle.plan_spec.specs.Vector.{Vector, Same, Before, turn}
 use Rattle.plan_spec.specs.Segment.{Segment, segment}
 
@@ -41,8 +41,3 @@ pub record IsConvex (vs : List Vector) : Type 0 where
   pub least : IsFromLeast vs
   pub distinct : AllPairs (λ a b. ¬ (Same a b)) vs
   pub left : All (λ s. All (EndOrLeft s) vs) (edges vs)
-
--- the vertices of a triangle counterclockwise, from the first one on; no other list is a triangle
-abbrev pub counterclockwise_triangle : List Vector → List Vector
-counterclockwise_triangle (a ∷ b ∷ c ∷ []) = if int_lt (turn a b c) (pos 0) then a ∷ c ∷ b ∷ [] else a ∷ b ∷ c ∷ []
-counterclockwise_triangle _ = []

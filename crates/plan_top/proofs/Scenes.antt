@@ -1,4 +1,4 @@
 -- Scenes: the room, the sums, and their boxes.
-pub mod Leaving
+pub mod Frames
 pub mod Rooms
 pub mod Sums

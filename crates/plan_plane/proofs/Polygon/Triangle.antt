@@ -1,21 +1,17 @@
--- A point held by a triangle is a combination of the corners with weights that are not negative, so what a line says of all three corners it says of the point.
-use Rattle.std.proofs.Common.{sym, ◌≡◌, ℤ, zero, suc, pos, ◌+ℤ◌, ◌*ℤ◌, ◌≤ℤ◌, ◌<ℤ◌, [], ◌∷◌, Bool, true, false, cond, int_lt, refl, ap, ◌∙◌, arith}
+-- A point inside a triangle is a combination of the corners with weights that are not negative, so what a line says of all three corners it says of the point.
+use Rattle.std.proofs.Common.{◌≡◌, ℤ, zero, suc, pos, ◌+ℤ◌, ◌*ℤ◌, ◌≤ℤ◌, ◌<ℤ◌, [], ◌∷◌, ap, ◌∙◌, arith}
 use Rattle.plan_exact.specs.Expr.{◌⊕◌, ◌⊗◌}
 use Rattle.plan_exact.specs.Sign.{Order, is_less, is_equal, is_greater}
-use Rattle.plan_exact.specs.Vectors.{sum, scaled, dot, cross, env}
+use Rattle.plan_exact.specs.Vectors.{sum, scaled, dot, env}
 use Rattle.plan_exact.specs.Formal as F
 use Rattle.plan_exact.specs.Formal.{A, B, C, D, J, K, L}
 use Rattle.plan_exact.proofs.Laws.{zero_mul, linear}
 use Rattle.plan_exact.proofs.Ring.{ring}
 use Rattle.plan_exact.proofs.RingVectors.{ring_vectors}
-use Rattle.plan_exact.proofs.Signs.{le_of_eq, mul_nonneg, mul_pos, nonneg_of_mul, pos_of_mul, order_of, le_of_lt}
-use Rattle.plan_exact.proofs.Tests.{lt_from_true, le_from_false}
-use Rattle.plan_exact.proofs.Vectors.{cross_on_left, cross_on_right, det_turned, det_swapped_right}
+use Rattle.plan_exact.proofs.Signs.{mul_nonneg, mul_pos, nonneg_of_mul, pos_of_mul, order_of, le_of_lt}
 use Rattle.plan_spec.specs.Vector.{Vector, IsPoint, turn}
 use Rattle.plan_spec.specs.Segment.{segment}
-use Rattle.plan_spec.specs.Placement.{Holds}
 use Rattle.plan_spec.specs.Polygon.{Inside}
-use Rattle.plan_plane.proofs.Segment.Between.{flip}
 
 -- scale z is first a + second b + third c
 pub record Among (a b c z : Vector) : Type 0 where
@@ -92,55 +88,3 @@ pos_at {a} {b} {c} {z} hz m l ha hb hc = pos_of_mul m.scale_positive (by (order_
     by h (is_less i) j = omega (arith, linear, dot_among m l, mul_nonneg m.first_nonneg (le_of_lt ha), mul_pos i hb, mul_nonneg m.third_nonneg (le_of_lt hc))
     by h i (is_less j) = omega (arith, linear, dot_among m l, mul_nonneg m.first_nonneg (le_of_lt ha), mul_nonneg m.second_nonneg (le_of_lt hb), mul_pos j hc)
     by (is_equal h) (is_equal i) (is_equal j) = absurd (omega (arith, linear, weight, mul_pos m.scale_positive hz, zero_mul a.w, zero_mul b.w, zero_mul c.w, ap (λ y. y *ℤ a.w) h, ap (λ y. y *ℤ b.w) i, ap (λ y. y *ℤ c.w) j))
-
--- ---- a combination, so held
-pub inside : {a b c z : Vector} → pos 0 <ℤ turn a b c → Among a b c z → Inside (a ∷ b ∷ c ∷ []) z
-inside {a} {b} {c} {z} h m =
-    held a b c z
-    (nonneg_at m (cross a b) (le_of_eq (sym (cross_on_left a b))) (le_of_eq (sym (cross_on_right a b))) (le_of_lt h))
-    (nonneg_at m (cross b c) (omega (arith, linear, det_turned a b c)) (le_of_eq (sym (cross_on_left b c))) (le_of_eq (sym (cross_on_right b c))))
-    (nonneg_at m (cross c a) (le_of_eq (sym (cross_on_right c a))) (omega (arith, linear, det_turned a b c, det_turned b c a)) (le_of_eq (sym (cross_on_left c a))))
-
--- ---- a triangle in either direction of turning
-pub turned : {a b c z : Vector} → Among a c b z → Among a b c z
-turned {a} {b} {c} m = record {
-  scale = m.scale;
-  first = m.first;
-  second = m.third;
-  third = m.second;
-  scale_positive = m.scale_positive;
-  first_nonneg = m.first_nonneg;
-  second_nonneg = m.third_nonneg;
-  third_nonneg = m.second_nonneg;
-  is_sum = m.is_sum ∙ ring_vectors (env (m.first ∷ m.second ∷ m.third ∷ []) (a ∷ b ∷ c ∷ [])) (F.sum (F.sum (F.scaled J A) (F.scaled K C)) (F.scaled L B)) (F.sum (F.sum (F.scaled J A) (F.scaled L B)) (F.scaled K C)) tt;
-}
-
-pub flipped : {a b c z : Vector} → Among a b c z → Among (flip a) (flip b) (flip c) (flip z)
-flipped m = record {
-  scale = m.scale;
-  first = m.first;
-  second = m.second;
-  third = m.third;
-  scale_positive = m.scale_positive;
-  first_nonneg = m.first_nonneg;
-  second_nonneg = m.second_nonneg;
-  third_nonneg = m.third_nonneg;
-  is_sum = ap flip m.is_sum;
-}
-
-positive : (n : ℤ) → ¬ (n ≡ pos 0) → int_lt n (pos 0) ≡ false → pos 0 <ℤ n
-positive n apart e = omega (arith, linear, le_from_false n (pos 0) e)
-
-pub holds_among : (a b c z : Vector) → ¬ (turn a b c ≡ pos 0) → Holds (a ∷ b ∷ c ∷ []) z → Among a b c z
-holds_among a b c z apart = by (int_lt (turn a b c) (pos 0)) refl
-  where
-    by : (t : Bool) → int_lt (turn a b c) (pos 0) ≡ t → Inside (cond t (a ∷ c ∷ b ∷ []) (a ∷ b ∷ c ∷ [])) z → Among a b c z
-    by true e h = turned (among a c b z (omega (arith, linear, det_swapped_right a c b, lt_from_true (turn a b c) (pos 0) e)) h)
-    by false e h = among a b c z (positive (turn a b c) apart e) h
-
-pub among_holds : (a b c z : Vector) → ¬ (turn a b c ≡ pos 0) → Among a b c z → Holds (a ∷ b ∷ c ∷ []) z
-among_holds a b c z apart m = by (int_lt (turn a b c) (pos 0)) refl
-  where
-    by : (t : Bool) → int_lt (turn a b c) (pos 0) ≡ t → Inside (cond t (a ∷ c ∷ b ∷ []) (a ∷ b ∷ c ∷ [])) z
-    by true e = inside (omega (arith, linear, det_swapped_right a c b, lt_from_true (turn a b c) (pos 0) e)) (turned m)
-    by false e = inside (positive (turn a b c) apart e) m

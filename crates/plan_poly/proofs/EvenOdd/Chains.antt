@@ -13,17 +13,17 @@ pub parity_append : (xs ys : List Segment) (z : Vector) → parity (xs ++ ys) z 
 parity_append [] ys z = refl
 parity_append (x ∷ xs) ys z = ap (xor (over x z)) (parity_append xs ys z) ∙ sym (xor_assoc (over x z) (parity xs z) (parity ys z))
 
+pub passed : (x y t : Bool) → xor (xor x y) (xor y t) ≡ xor x t
+passed true true t = refl
+passed true false t = refl
+passed false true true = refl
+passed false true false = refl
+passed false false t = refl
+
 -- ---- closed
 odd_end_is : (a : Vector) (vs : List Vector) (f z : Vector) → odd_end (segments_from a (vs ++ f ∷ [])) z ≡ xor (same a z) (same f z)
 odd_end_is a [] f z = xor_false (xor (same a z) (same f z))
 odd_end_is a (b ∷ vs) f z = ap (xor (xor (same a z) (same b z))) (odd_end_is b vs f z) ∙ passed (same a z) (same b z) (same f z)
-  where
-    passed : (x y t : Bool) → xor (xor x y) (xor y t) ≡ xor x t
-    passed true true t = refl
-    passed true false t = refl
-    passed false true true = refl
-    passed false true false = refl
-    passed false false t = refl
 
 pub closed : (vs : List Vector) → IsClosed (edges vs)
 closed [] z hz = refl

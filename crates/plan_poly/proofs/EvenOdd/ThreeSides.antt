@@ -7,11 +7,11 @@ use Rattle.plan_exact.proofs.Vectors.{det_swapped_right}
 use Rattle.plan_spec.specs.Polygon.{Inside}
 use Rattle.plan_spec.specs.SimplePolygon.{InPolygon}
 use Rattle.plan_spec.specs.Vector.{Vector, IsPoint, turn}
-use Rattle.plan_spec.specs.Placement.{Holds}
+use Rattle.plan_grid.specs.Triangle.{counterclockwise_triangle}
 use Rattle.plan_poly.proofs.EvenOdd.Backwards.{in_polygon_back}
 use Rattle.plan_poly.proofs.EvenOdd.Triangle.{inside_from, from_inside}
 
-pub held_by_three : (a b c z : Vector) → IsPoint a → IsPoint b → IsPoint c → IsPoint z → ¬ (turn a b c ≡ pos 0) → InPolygon (a ∷ b ∷ c ∷ []) z ↔ Holds (a ∷ b ∷ c ∷ []) z
+pub held_by_three : (a b c z : Vector) → IsPoint a → IsPoint b → IsPoint c → IsPoint z → ¬ (turn a b c ≡ pos 0) → InPolygon (a ∷ b ∷ c ∷ []) z ↔ Inside (counterclockwise_triangle (a ∷ b ∷ c ∷ [])) z
 held_by_three a b c z ha hb hc hz apart = by (int_lt (turn a b c) (pos 0)) refl
   where
     by : (t : Bool) → int_lt (turn a b c) (pos 0) ≡ t → InPolygon (a ∷ b ∷ c ∷ []) z ↔ Inside (cond t (a ∷ c ∷ b ∷ []) (a ∷ b ∷ c ∷ [])) z

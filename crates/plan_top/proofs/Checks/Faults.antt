@@ -1,19 +1,19 @@
 -- What the tests of a path tell of it as the definitions see it: its ends are compared as spots, and a segment touches in the terms of the room and the sums exactly where it touches.
-use Rattle.std.proofs.Common.{◌≡◌, ◌⊎◌, ◌↔◌, inl, inr, ℕ, zero, suc, pos, ◌==◌, Bool, true, false, not, ◌&&◌, int_eq, Decides, ◌*ℤ◌, ◌-◌, ◌<◌, List, [], ◌∷◌, length, slice_get, All, Any, IfSome, IsSomeAnd, ⊎_elim, refl, sym, ap, ◌∙◌, subst, arith}
+use Rattle.std.proofs.Common.{◌≡◌, ◌⊎◌, ◌↔◌, inl, inr, ℕ, zero, suc, ◌==◌, Bool, true, false, not, ◌&&◌, int_eq, Decides, ◌-◌, ◌<◌, List, [], ◌∷◌, length, slice_get, All, Any, IfSome, IsSomeAnd, ⊎_elim, sym, ap, arith}
 use Rattle.std.specs.List.{AllZip}
 use Rattle.std.proofs.lemmas.List.Elements.{All-map}
 use Rattle.std.proofs.lemmas.Bool.{not-false}
 use Rattle.std.proofs.lemmas.Bool.Decides.{Decides-int_eq, Decides-and, Decides-like, nat_tests}
 use Rattle.std.proofs.lemmas.List.{length-map}
 use Rattle.std.proofs.lemmas.Int.{ints}
-use Rattle.plan_spec.specs.Vector.{Vector, IsPoint, Same}
+use Rattle.plan_spec.specs.Vector.{Vector, IsPoint}
 use Rattle.plan_spec.specs.Segment.{Segment, HasPoints, AnyOn}
 use Rattle.plan_spec.specs.Polygon.{Inside}
 use Rattle.plan_spec.specs.Placement.{Leaves, Meets, Scene as Placed}
 use Rattle.plan_spec.specs.Frame.{OnOrBeyond}
 use Rattle.plan_spec.specs.Route.{IsClearPolyline, StartsAt, EndsAt, legs}
 use Rattle.plan_spec.specs.Reply.{SegmentTouches, IsFirst}
-use Rattle.plan_top.proofs.Scenes.Leaving.{segment_beyond}
+use Rattle.plan_top.proofs.Scenes.Frames.{segment_beyond}
 use Rattle.plan_top.proofs.Checks.ClearPaths.{clear_polyline}
 use Rattle.plan_top.proofs.Checks.Touching.{touches_where, any_on_alike}
 use Rattle.plan_plane.proofs.Lists.{any_none, any_here, any_there, any_cases}

@@ -1,7 +1,6 @@
 -- The frame moved by the robot's box is its room; the box is no farther than the robot's corners.
-use Rattle.std.proofs.Common.{◌≡◌, ◌↔◌, ℕ, ℤ, pos, ◌≤◌, ◌≤ℤ◌, unsigned_abs, List, [], ◌∷◌, All, Any, refl, sym, subst, arith}
+use Rattle.std.proofs.Common.{◌≡◌, ◌↔◌, ℕ, ℤ, pos, ◌≤◌, ◌≤ℤ◌, unsigned_abs, List, All, Any, refl, sym, subst}
 use Rattle.std.proofs.lemmas.List.Elements.{All-map}
-use Rattle.plan_spec.specs.Vector.{Vector}
 use Rattle.plan_spec.specs.Placement.{Leaves}
 use Rattle.plan_spec.specs.Frame.{OnOrBeyond}
 use Rattle.plan_plane.proofs.Lists.{any_to_map}
@@ -9,11 +8,10 @@ use Rattle.plan_grid.specs.declared.frame.Frame.{Frame}
 use Rattle.plan_grid.specs.declared.spot.Spot.{Spot}
 use Rattle.plan_grid.specs.Spot.{spot_seen, spots_seen, way, IsWithin}
 use Rattle.plan_grid.specs.Frame.{frame_seen}
-use Rattle.plan_grid.specs.Triangle.{IsTriangle}
 use Rattle.plan_convex.specs.Boxes.{IsBox}
 use Rattle.plan_top.specs.Scene.{IsRoom}
-use Rattle.plan_top.proofs.Scenes.Leaving as L
-use Rattle.plan_top.proofs.Scenes.Leaving.{leaves}
+use Rattle.plan_poly.proofs.Leaving as L
+use Rattle.plan_poly.proofs.Leaving.{leaves}
 
 -- the box as the definitions see it
 box_seen : (spots : List Spot) (box : Frame) → IsBox spots box → L.IsBox (spots_seen spots) (frame_seen box)
@@ -29,17 +27,12 @@ box_seen spots box b = record {
   highest = any_to_map (λ v. v.y ≡ box.high.y) spot_seen spots b.highest;
 }
 
-pub room_is : (robot : List Spot) (frame box : Frame) (m n : Spot) → IsTriangle robot → IsBox robot box → m ≡ way box.low frame.low → n ≡ way box.high frame.high
+pub room_is : (robot : List Spot) (frame box : Frame) (m n : Spot) → IsBox robot box → m ≡ way box.low frame.low → n ≡ way box.high frame.high
     → IsRoom (spots_seen robot) (frame_seen frame) (frame_seen (record { low = m; high = n }))
-room_is [] frame box m n h b em en = absurd (let e = h.three in omega arith)
-room_is (p ∷ []) frame box m n h b em en = absurd (let e = h.three in omega arith)
-room_is (p ∷ (q ∷ [])) frame box m n h b em en = absurd (let e = h.three in omega arith)
-room_is (p ∷ (q ∷ (r ∷ (s ∷ t)))) frame box m n h b em en = absurd (let e = h.three in omega arith)
-room_is (p ∷ (q ∷ (r ∷ []))) frame box m n h b em en =
-    let robot = p ∷ q ∷ r ∷ [] in
+room_is robot frame box m n b em en =
     let moved : L.room (frame_seen box) (frame_seen frame) ≡ frame_seen (record { low = m; high = n }) = (λ i. record { low = spot_seen (sym em i); high = spot_seen (sym en i) }) in
     λ z hz. subst (λ room. Leaves (spots_seen robot) (frame_seen frame) z ↔ OnOrBeyond room z) moved
-    (leaves (spot_seen p) (spot_seen q) (spot_seen r) (frame_seen box) (frame_seen frame) z h.not_flat (box_seen robot box b) refl refl hz)
+    (leaves (spots_seen robot) (frame_seen box) (frame_seen frame) z (box_seen robot box b) refl refl hz)
 
 -- ---- the corners of the box are no farther than the spots
 at : (k : ℕ) (f : Spot → ℤ) (m : ℤ) (spots : List Spot) → All (λ s. unsigned_abs (f s) ≤ k) spots → Any (λ s. f s ≡ m) spots → unsigned_abs m ≤ k
