@@ -1,9 +1,11 @@
 ghost use Rattle.std.specs.Prelude.{◌⊎◌, ◌↔◌, IsTrue};
-ghost use Rattle.plan_spec.specs.Vector.{LeX, LeY};
+ghost use Rattle.plan_spec.specs.Vector.{LeX, LtX, LeY, LtY};
 ghost use Rattle.plan_spec.specs.Frame.{OnOrBeyond};
-ghost use Rattle.plan_grid.specs.Frame.{frame_seen};
+ghost use Rattle.plan_grid.specs.Frame.{frame_seen, IsPast};
 ghost use Rattle.plan_grid.specs.Spot.{spot_seen};
 
+use crate::order::fraction_order;
+use crate::point::Point;
 use crate::spot::Spot;
 
 /// An axis-parallel rectangle, by its lower left and its upper right corner. As a type it takes any two spots; those of
@@ -21,6 +23,23 @@ impl Frame {
     {
         is_left_or_below(p, self.low) || is_left_or_below(self.high, p)
     }
+
+    /// Whether the point is on a side of the frame or beyond it.
+    pub fn is_on_or_beyond_at(self, z: &Point) -> bool
+        ensures { IsTrue result ↔ OnOrBeyond (frame_seen self) z.now }
+    {
+        is_low(z, self.low) || is_high(z, self.high)
+    }
+
+    /// Whether the point is strictly beyond a side of the frame.
+    pub fn is_past(self, z: &Point) -> bool
+        ensures { IsTrue result ↔ IsPast (frame_seen self) z.now }
+    {
+        is_left(z, self.low)
+            || is_below(z, self.low)
+            || is_right(z, self.high)
+            || is_above(z, self.high)
+    }
 }
 
 // Whether `p` is left of `q` or below it, or level with it either way.
@@ -29,4 +48,48 @@ fn is_left_or_below(p: Spot, q: Spot) -> bool
         ↔ (LeX (spot_seen p) (spot_seen q) ⊎ LeY (spot_seen p) (spot_seen q)) }
 {
     p.x <= q.x || p.y <= q.y
+}
+
+// Whether `z` is left of `p` or below it, or level with it either way.
+fn is_low(z: &Point, p: Spot) -> bool
+    ensures { IsTrue result
+        ↔ (LeX z.now (spot_seen p) ⊎ LeY z.now (spot_seen p)) }
+{
+    !(is_right(z, p) && is_above(z, p))
+}
+
+// Whether `z` is right of `p` or above it, or level with it either way.
+fn is_high(z: &Point, p: Spot) -> bool
+    ensures { IsTrue result
+        ↔ (LeX (spot_seen p) z.now ⊎ LeY (spot_seen p) z.now) }
+{
+    !(is_left(z, p) && is_below(z, p))
+}
+
+// Whether `z` is left of `p`.
+fn is_left(z: &Point, p: Spot) -> bool
+    ensures { IsTrue result ↔ LtX z.now (spot_seen p) }
+{
+    fraction_order(z.x(), z.w(), i64::from(p.x), 1).is_lt()
+}
+
+// Whether `z` is right of `p`.
+fn is_right(z: &Point, p: Spot) -> bool
+    ensures { IsTrue result ↔ LtX (spot_seen p) z.now }
+{
+    fraction_order(z.x(), z.w(), i64::from(p.x), 1).is_gt()
+}
+
+// Whether `z` is below `p`.
+fn is_below(z: &Point, p: Spot) -> bool
+    ensures { IsTrue result ↔ LtY z.now (spot_seen p) }
+{
+    fraction_order(z.y(), z.w(), i64::from(p.y), 1).is_lt()
+}
+
+// Whether `z` is above `p`.
+fn is_above(z: &Point, p: Spot) -> bool
+    ensures { IsTrue result ↔ LtY (spot_seen p) z.now }
+{
+    fraction_order(z.y(), z.w(), i64::from(p.y), 1).is_gt()
 }

@@ -219,6 +219,32 @@ fn frames_hold_what_is_strictly_between_their_sides(rt: HostRuntime) {
     }
 }
 
+// What is on a side is no longer strictly inside, and not yet strictly beyond.
+#[test]
+fn frames_tell_where_rational_points_are(rt: HostRuntime) {
+    let frame = Frame {
+        low: spot(-1, -2),
+        high: spot(3, 4),
+    };
+    for (x, y, w, touched, past) in [
+        (1, 1, 2, false, false),
+        (-1, 0, 1, true, false),
+        (-5, 0, 4, true, true),
+        (-3, 0, 4, false, false),
+        (5, -4, 2, true, false),
+        (5, -5, 2, true, true),
+        (9, 5, 3, true, false),
+        (10, 5, 3, true, true),
+        (1, 13, 3, true, true),
+        (1, 12, 3, true, false),
+        (8, 11, 3, false, false),
+    ] {
+        let z = point(&rt, x, y, w);
+        assert!(rt; frame.is_on_or_beyond_at(&z) == touched, "at {x} {y} {w}");
+        assert!(rt; frame.is_past(&z) == past, "at {x} {y} {w}");
+    }
+}
+
 #[test]
 fn triangles_are_turned_counterclockwise(rt: HostRuntime) {
     let (a, b, c) = (spot(0, 0), spot(4, 0), spot(0, 3));
