@@ -9,6 +9,7 @@ pub mod Cells
 pub mod Upright
 pub mod Walls
 pub mod LotOrder
+pub mod Kept
 pub mod Spots
 pub mod ExactlyOne
 pub mod Numbered

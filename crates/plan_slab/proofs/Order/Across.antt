@@ -1,4 +1,4 @@
--- A piece with a point strictly between two neighbouring lines goes across, and its ends and those of its edge are not strictly between.
+-- A point of a piece strictly between two lines across which the piece goes is an end neither of it nor of its edge.
 use Rattle.std.proofs.Common.{◌⊎◌, inl, inr, ⊎_elim, List, arith}
 use Rattle.plan_exact.proofs.Laws.{linear}
 use Rattle.plan_spec.specs.Vector.{Vector, IsPoint, LeX, LtX, SameX}
@@ -6,35 +6,16 @@ use Rattle.plan_spec.specs.Segment.{On}
 use Rattle.plan_spec.specs.Frame.{Frame}
 use Rattle.plan_spec.specs.Pieces.{Piece}
 use Rattle.plan_spec.specs.Slabs.{edge_of, InSlab, Reaches}
-use Rattle.plan_plane.proofs.Segment.ByX.{leX_trans, leX_ltX, ltX_leX}
+use Rattle.plan_plane.proofs.Segment.ByX.{leX_ltX, ltX_leX}
 use Rattle.plan_plane.proofs.Segment.Part.{on_part_of}
 use Rattle.plan_slab.proofs.Order.Beside.{IsWithin}
-use Rattle.plan_slab.proofs.Pieces.{IsPiece, in_range}
+use Rattle.plan_slab.proofs.Pieces.{IsPiece}
 
 -- l and r are two lines, from left to right
 pub record IsSlab (l r : Vector) : Type 0 where
   pub left_point : IsPoint l
   pub right_point : IsPoint r
   pub wide : LtX l r
-
--- no end of the piece is strictly between them
-pub record IsOutside (l r : Vector) (p : Piece) : Type 0 where
-  pub first : LeX p.part.a l ⊎ LeX r p.part.a
-  pub last : LeX p.part.b l ⊎ LeX r p.part.b
-
-pub reaches : {sums : List (List Vector)} {room : Frame} {l r : Vector} {p : Piece} → IsSlab l r → IsPiece sums room p → IsOutside l r p → (z : Vector) → IsPoint z → InSlab l r z → On p.part z → Reaches l r p
-reaches {l = l} {r} {p} slab piece out z hz inside on = (left out.first, right out.last)
-  where
-    range : LeX p.part.a z × LeX z p.part.b
-    range = in_range p.part z piece.part.points hz piece.part.onward on
-
-    left : LeX p.part.a l ⊎ LeX r p.part.a → LeX p.part.a l
-    left (inl h) = h
-    left (inr h) = absurd (omega (arith, linear, leX_trans r p.part.a z slab.right_point piece.part.points.0 hz h range.0, inside.1))
-
-    right : LeX p.part.b l ⊎ LeX r p.part.b → LeX r p.part.b
-    right (inr h) = h
-    right (inl h) = absurd (omega (arith, linear, leX_trans z p.part.b l hz piece.part.points.1 slab.left_point range.1 h, inside.0))
 
 -- strictly between two points of a segment by x is no end of it
 no_end : (a b u v z : Vector) → IsPoint a → IsPoint b → IsPoint u → IsPoint v → IsPoint z → LtX u z → LtX z v → (LeX a u × LeX u b) ⊎ (LeX b u × LeX u a) → (LeX a v × LeX v b) ⊎ (LeX b v × LeX v a) → ¬ (SameX z a)

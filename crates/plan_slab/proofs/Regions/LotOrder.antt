@@ -1,12 +1,12 @@
--- The list of all lots: each cell and each wall right of the first line is in it, and none twice, since they come by rising numbers; so it is with what is kept of it.
+-- The list of all lots: each cell and each wall right of the first line is in it, and none twice, since they come by rising numbers.
 use Rattle.std.proofs.Common.{◌≡◌, ◌⊎◌, inl, inr, ℕ, zero, suc, ◌+◌, ◌*◌, ◌-◌, ◌<◌, ◌≤◌, List, ◌++◌, length, map, get_or, All, Any, refl, sym, ap, ◌∙◌, subst, arith}
 use Rattle.std.specs.List.{flat_map, range_with_len}
-use Rattle.std.proofs.lemmas.List.Elements.{All-nil, All-cons, All-head, All-tail, All-append, All-weaker}
+use Rattle.std.proofs.lemmas.List.Elements.{All-append, All-weaker}
 use Rattle.std.proofs.lemmas.List.FromFn.{get_or-range_with_len, length-range_with_len, get_or-map-range_with_len, length-map-range_with_len}
 use Rattle.plan_spec.specs.Slabs.{Slabs, spans_of, marks_of}
-use Rattle.plan_spec.specs.Regions.{Lot, cell, wall, cells, walls, lots, Kept, none, keep, drop}
+use Rattle.plan_spec.specs.Regions.{Lot, cell, wall, cells, walls, lots}
 use Rattle.plan_slab.specs.LotOrder.{rank, index, Earlier}
-use Rattle.plan_plane.proofs.Lists.{any_here, any_there, any_none, any_cases, any_left, any_right, any_flat, all_flat}
+use Rattle.plan_plane.proofs.Lists.{any_left, any_right, any_flat, all_flat}
 use Rattle.plan_plane.proofs.Pairs.{Pairs, pairs_from, pairs_join}
 
 -- ---- the order
@@ -106,30 +106,3 @@ module _ (σ : Slabs) where
 
   pub wall_listed : (k i : ℕ) → k < length σ.spans → suc i < length (marks_of σ (suc k)) → Any (λ b. b ≡ wall (suc k) i) (lots σ)
   wall_listed k i within below = in_block (wall (suc k) i) k within (any_right (λ b. b ≡ wall (suc k) i) (cells σ k) (walls σ (suc k)) (in_row (wall (suc k)) (length (marks_of σ (suc k)) - 1) i (omega arith)))
-
--- ---- what is kept of a list
-pub kept_all : {X : Type 0} {P : X → Type 0} (Q : X → Type 0) {xs ys : List X} → Kept P xs ys → All Q xs → All Q ys
-kept_all Q none h = All-nil Q
-kept_all Q (keep a xs ys p rest) h = All-cons Q a ys (All-head Q a xs h) (kept_all Q rest (All-tail Q a xs h))
-kept_all Q (drop a xs ys off rest) h = kept_all Q rest (All-tail Q a xs h)
-
-pub kept_has : {X : Type 0} {P : X → Type 0} {xs ys : List X} → Kept P xs ys → All P ys
-kept_has {P = P} none = All-nil P
-kept_has {P = P} (keep a xs ys p rest) = All-cons P a ys p (kept_has rest)
-kept_has (drop a xs ys off rest) = kept_has rest
-
-pub kept_any : {X : Type 0} {P : X → Type 0} (Q : X → Type 0) {xs ys : List X} → Kept P xs ys → Any (λ x. Q x × P x) xs → Any Q ys
-kept_any {P = P} Q none h = absurd (any_none (λ x. Q x × P x) h)
-kept_any {P = P} Q (keep a xs ys p rest) h = elim (any_cases (λ x. Q x × P x) a xs h) [
-  | inl q ↦ any_here Q a ys q.0
-  | inr t ↦ any_there Q a ys (kept_any Q rest t)
-]
-kept_any {P = P} Q (drop a xs ys off rest) h = elim (any_cases (λ x. Q x × P x) a xs h) [
-  | inl q ↦ absurd (off q.1)
-  | inr t ↦ kept_any Q rest t
-]
-
-pub kept_pairs : {X : Type 0} {P : X → Type 0} (R : X → X → Type 0) {xs ys : List X} → Kept P xs ys → Pairs R xs → Pairs R ys
-kept_pairs R none h = tt
-kept_pairs R (keep a xs ys p rest) h = (kept_all (R a) rest h.0, kept_pairs R rest h.1)
-kept_pairs R (drop a xs ys off rest) h = kept_pairs R rest h.1

@@ -16,7 +16,8 @@ use Rattle.plan_slab.specs.LotOrder.{Earlier}
 use Rattle.plan_slab.proofs.Regions.StraightWays.{beyond}
 use Rattle.plan_slab.proofs.ByNumber.{at_number}
 use Rattle.plan_slab.proofs.Regions.ExactlyOne.{KnownSlabs, decides, spot_inside, once, listed}
-use Rattle.plan_slab.proofs.Regions.LotOrder.{differs, not_both, lots_rise, all_lots, kept_all, kept_has, kept_any, kept_pairs}
+use Rattle.plan_slab.proofs.Regions.Kept.{kept_all, kept_has, kept_any, kept_pairs}
+use Rattle.plan_slab.proofs.Regions.LotOrder.{differs, not_both, lots_rise, all_lots}
 
 module _ {sums : List (List Vector)} {room : Frame} {pieces : List Piece} {σ : Slabs} {found : List Lot} (map : KnownSlabs sums room pieces σ) (regions : AreRegions sums room σ found) where
   pub is_lot : (n : ℕ) → n < length found → IsLot σ (region_at found n)
