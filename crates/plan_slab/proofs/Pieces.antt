@@ -9,9 +9,12 @@ use Rattle.plan_spec.specs.Segment.{Segment, HasPoints, On}
 use Rattle.plan_spec.specs.Frame.{Frame}
 use Rattle.plan_spec.specs.Boundary.{IsUncovered, boundary}
 use Rattle.plan_spec.specs.Pieces.{IsPartOf, ArePieces, Piece, piece, numbered, IsBoundaryOf}
-use Rattle.plan_spec.specs.Slabs.{nothing, edge_of}
+use Rattle.plan_spec.specs.Slabs.{nothing, edge_of, IsMark}
 use Rattle.plan_plane.proofs.Boundary.Floor.{IsFloor, edge_points}
 use Rattle.plan_plane.proofs.Lists.{any_cases, any_none, any_left, any_right, any_to_map}
+use Rattle.plan_plane.proofs.Segment.Between as between
+use Rattle.plan_plane.proofs.Segment.Between.{between_first, between_second}
+use Rattle.plan_plane.proofs.Segment.Same.{on_same, Same-swapped}
 use Rattle.plan_plane.proofs.Segment.ByX.{leX_trans}
 use Rattle.plan_plane.proofs.Segment.Part.{on_part_of}
 
@@ -87,3 +90,9 @@ in_range p z hp hz onward h = by (le_or_lt (p.a.x *ℤ p.b.w) (p.b.x *ℤ p.a.w)
     by (inr lt) w = absurd (onward (inl lt))
     by (inl le) (inl w) = w
     by (inl le) (inr w) = (leX_trans p.a p.b z hp.0 hp.1 hz le w.0, leX_trans z p.a p.b hz hp.0 hp.1 w.1 le)
+
+-- a mark of a piece is on it
+pub mark_on : (p : Piece) (m : Vector) → HasPoints p.part → IsPoint m → IsMark m p → On p.part m
+mark_on p m hp hm (inl same) = on_same p.part.a p.part.b p.part.a m hp.0 hp.1 hp.0 hm (Same-swapped m p.part.a same) (between.on (between_first p.part.a p.part.b hp.0))
+mark_on p m hp hm (inr (inl same)) = on_same p.part.a p.part.b p.part.b m hp.0 hp.1 hp.1 hm (Same-swapped m p.part.b same) (between.on (between_second p.part.a p.part.b hp.1))
+mark_on p m hp hm (inr (inr h)) = h.1

@@ -20,7 +20,7 @@ use Rattle.plan_slab.proofs.Regions.SpanLines.{height}
 use Rattle.plan_slab.proofs.Order.OneOrder.{IsStrand, run_pos, piece_rises, on_strand}
 
 -- ---- the number
-pub meets_is : (s : Segment) (ms : List Vector) (j : ℕ) → j < length ms → turn s.a s.b (get_or ms j nowhere) ≡ pos 0 → ((i : ℕ) → i < j → turn s.a s.b (get_or ms i nowhere) <ℤ pos 0) → meets s ms ≡ j
+meets_is : (s : Segment) (ms : List Vector) (j : ℕ) → j < length ms → turn s.a s.b (get_or ms j nowhere) ≡ pos 0 → ((i : ℕ) → i < j → turn s.a s.b (get_or ms i nowhere) <ℤ pos 0) → meets s ms ≡ j
 meets_is s [] j within e low = absurd (omega arith)
 meets_is s (m ∷ ms) zero within e low = by (int_lt (turn s.a s.b m) (pos 0)) refl
   where
@@ -68,7 +68,7 @@ module _ {pieces : List Piece} {l r u : Vector} {ms : List Vector} {s : Segment}
       let hb = marks.points j nowhere within in
       lower s a b (run_pos strand) ha hb (order_x.trans a u b ha hu hb (sym (marks.on_line i nowhere (omega arith))) (marks.on_line j nowhere within)) (marks.rising i j nowhere less within) h
 
-  pub number_is : (f : MarkOf s ms) → meets s ms ≡ f.number
+  number_is : (f : MarkOf s ms) → meets s ms ≡ f.number
   number_is f = meets_is s ms f.number f.within f.on (λ i less. marks_below i f.number less f.within (omega (arith, linear, f.on)))
 
   pub meets_mark : MarkOf s ms → MeetsMark s ms

@@ -36,7 +36,7 @@ before i j m z r hi hj h k = lt_from (env (i ∷ j ∷ []) (m ∷ z ∷ r ∷ []
 cancel : (x y : ℤ) → neg_ℤ y *ℤ x +ℤ x *ℤ y ≡ pos 0
 cancel x y = ring (x ∷ y ∷ []) (neg (var 1) ⊗ var 0 ⊕ var 0 ⊗ var 1) (con (pos 0)) tt
 
-pub closed_below : (l r : Vector) (s t : Segment) → IsSlab l r → pos 0 <ℤ run t → Below l r s t → (z : Vector) → IsPoint z → LeX l z → LeX z r → pos 0 ≤ℤ turn t.a t.b z → pos 0 ≤ℤ turn s.a s.b z
+closed_below : (l r : Vector) (s t : Segment) → IsSlab l r → pos 0 <ℤ run t → Below l r s t → (z : Vector) → IsPoint z → LeX l z → LeX z r → pos 0 ≤ℤ turn t.a t.b z → pos 0 ≤ℤ turn s.a s.b z
 closed_below l r s t slab ht below z hz lz zr above = by (le_or_lt (pos 0) (turn s.a s.b z))
   where
     by : (pos 0 ≤ℤ turn s.a s.b z) ⊎ (turn s.a s.b z <ℤ pos 0) → pos 0 ≤ℤ turn s.a s.b z

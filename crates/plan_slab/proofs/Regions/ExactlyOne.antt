@@ -35,7 +35,7 @@ module _ {sums : List (List Vector)} {room : Frame} {pieces : List Piece} {σ : 
   pub slab_at : (k : ℕ) → k < length σ.spans → SpannedSlab sums room pieces σ.lines k (spans_of σ k)
   slab_at k within = record { known = map.known; lines = map.slabs.lines; within = has_lines k within; spans = map.slabs.spans k within }
 
-  pub line_point : (k : ℕ) → k < length σ.lines → IsPoint (line_at σ k)
+  line_point : (k : ℕ) → k < length σ.lines → IsPoint (line_at σ k)
   line_point k within = map.slabs.lines.points k nowhere within
 
   pub line_of : (k : ℕ) → k < length σ.marks → MarkedLine sums room pieces (line_at σ k) (marks_of σ k)

@@ -4,18 +4,18 @@ use Rattle.std.proofs.lemmas.List.{get_or_default}
 use Rattle.plan_exact.proofs.Laws.{linear}
 use Rattle.plan_exact.proofs.Signs.{le_of_lt}
 use Rattle.plan_spec.specs.Vector.{Vector, IsPoint, LeX, LeY, LtY, SameX, Same}
-use Rattle.plan_spec.specs.Segment.{Segment, On}
+use Rattle.plan_spec.specs.Segment.{On}
 use Rattle.plan_spec.specs.Frame.{Frame}
 use Rattle.plan_spec.specs.Boundary.{IsClearOf}
-use Rattle.plan_spec.specs.Pieces.{IsPartOf, Piece}
-use Rattle.plan_spec.specs.Slabs.{nowhere, edge_of, IsMark, AreMarks}
+use Rattle.plan_spec.specs.Pieces.{Piece}
+use Rattle.plan_spec.specs.Slabs.{nowhere, IsMark, AreMarks}
 use Rattle.plan_spec.specs.Regions.{InWall}
 use Rattle.plan_plane.proofs.Boundary.Decided.{clear_decided}
 use Rattle.plan_plane.proofs.Rising.ByCoordinate.{order_x}
-use Rattle.plan_plane.proofs.Segment.Between.{Between, on, between_first, between_second, flip, LeX_after, LeX_before, LtX_after, LtX_before, flipped}
+use Rattle.plan_plane.proofs.Segment.Between.{Between, flip, LeX_after, LeX_before, LtX_after, LtX_before, flipped}
 use Rattle.plan_plane.proofs.Segment.ByX.{leX_trans, leX_ltX, ltX_leX}
-use Rattle.plan_plane.proofs.Segment.Same.{on_same, Same-swapped}
-use Rattle.plan_slab.proofs.Pieces.{IsPiece, HasPieces}
+use Rattle.plan_plane.proofs.Segment.Same.{on_same}
+use Rattle.plan_slab.proofs.Pieces.{IsPiece, HasPieces, mark_on}
 use Rattle.plan_slab.proofs.ByNumber.{at_number}
 use Rattle.plan_slab.proofs.Regions.Falling.{Falls, DropsAt, DropsOrZero, drops, drop_apart, not_beyond, not_before, up_to, from_on}
 use Rattle.plan_slab.proofs.Regions.OnPieces.{piece_of, touches, Hit, hit}
@@ -41,12 +41,6 @@ wall_convex {l} {m} {n} {p} {q} {z} hz b wp wq =
       above = LtX_after hz (flipped b) (flip m) wp.above wq.above;
       below = LtX_before hz (flipped b) (flip n) wp.below wq.below;
     }
-
--- a mark of a piece is on it
-pub mark_on : (e : Segment) (p : Piece) (m : Vector) → IsPartOf e p.part → IsPoint m → IsMark m p → On p.part m
-mark_on e p m part hm (inl same) = let pts = part.points in on_same p.part.a p.part.b p.part.a m pts.0 pts.1 pts.0 hm (Same-swapped m p.part.a same) (on (between_first p.part.a p.part.b pts.0))
-mark_on e p m part hm (inr (inl same)) = let pts = part.points in on_same p.part.a p.part.b p.part.b m pts.0 pts.1 pts.1 hm (Same-swapped m p.part.b same) (on (between_second p.part.a p.part.b pts.1))
-mark_on e p m part hm (inr (inr h)) = h.1
 
 -- a line with its marks
 pub record MarkedLine (sums : List (List Vector)) (room : Frame) (pieces : List Piece) (l : Vector) (ms : List Vector) : Type 0 where
@@ -189,4 +183,4 @@ module _ {sums : List (List Vector)} {room : Frame} {pieces : List Piece} {l : V
           let (k, p, below, is, mark) = (line.marks.exact m hm lm).1 (j, m, within, get_or_default ms j m nowhere within, (refl, refl)) in
           let d = piece_of line.known (k, below, is) in
           let y : m.y *ℤ z.w ≡ z.y *ℤ m.w = omega (arith, linear) in
-          absurd (touches line.known (k, below, is) z hz (on_same p.part.a p.part.b m z d.part.points.0 d.part.points.1 hm hz (order_x.trans m l z hm line.point hz (sym lm) lz, y) (mark_on (edge_of sums room p) p m d.part hm mark)) clear)
+          absurd (touches line.known (k, below, is) z hz (on_same p.part.a p.part.b m z d.part.points.0 d.part.points.1 hm hz (order_x.trans m l z hm line.point hz (sym lm) lz, y) (mark_on p m d.part.points hm mark)) clear)
