@@ -18,7 +18,7 @@ use Rattle.plan_plane.proofs.Segment.Same.{on_same}
 use Rattle.plan_slab.proofs.Pieces.{IsPiece, HasPieces, mark_on}
 use Rattle.plan_slab.proofs.ByNumber.{at_number}
 use Rattle.plan_slab.proofs.Regions.Falling.{Falls, DropsAt, DropsOrZero, drops, drop_apart, not_beyond, not_before, up_to, from_on}
-use Rattle.plan_slab.proofs.Regions.OnPieces.{piece_of, touches, Hit, hit}
+use Rattle.plan_slab.proofs.Regions.OnPieces.{piece_of, touches, hit}
 use Rattle.plan_slab.proofs.Regions.Rows.{above_mark, marks_fall}
 use Rattle.plan_slab.proofs.Regions.StraightWays.{beneath, overhead}
 use Rattle.plan_slab.proofs.Regions.Upright.{Shape, rises, upright, shape, on_upright, upright_at}
@@ -115,63 +115,48 @@ module _ {sums : List (List Vector)} {room : Frame} {pieces : List Piece} {l : V
         absurd (touches line.known b.has p hp (covers i within b.point p b.is_point hp (wall_convex b.is_point b.is.0 wp wq) wp b.has b.on) clear)
   ]
 
-  -- a mark that is not above z, since a piece has a point straight below z; and one that is not below it
-  mark_below : (z : Vector) → IsPoint z → SameX l z → IsClearOf sums room z → (j : ℕ) × (j < length ms) × (pos 0 ≤ℤ above_mark ms z j)
-  mark_below z hz lz clear = by (shape b.piece.part d.part.onward)
-    where
-      b : Hit pieces (λ v. SameX z v × LtY v z)
-      b = beneath line.known z hz clear
+  -- the marks of a piece below and above a point of it on the line, or at it
+  module _ (z : Vector) (hz : IsPoint z) {p : Piece} (has : Contains pieces p) (v : Vector) (hv : IsPoint v) (lv : SameX l v) (on : On p.part v) where
+    d : IsPiece sums room p
+    d = piece_of line.known has
 
-      d : IsPiece sums room b.piece
-      d = piece_of line.known b.has
+    below_at : (u : Vector) → IsPoint u → SameX l u → IsMark u p → LeY u v → LeY v z → (j : ℕ) × (j < length ms) × (pos 0 ≤ℤ above_mark ms z j)
+    below_at u hu lu is uv vz =
+        let (j, below, same) = number u has hu lu is in
+        let m = get_or ms j nowhere in
+        let mu : LeY m u = omega (arith, linear, same.1) in
+        (j, below, omega (arith, linear, leX_trans (flip m) (flip u) (flip z) (mark_point j below) hu hz mu (leX_trans (flip u) (flip v) (flip z) hu hv hz uv vz)))
 
-      lv : SameX l b.point
-      lv = order_x.trans l z b.point line.point hz b.is_point lz b.is.0
+    above_at : (u : Vector) → IsPoint u → SameX l u → IsMark u p → LeY v u → LeY z v → (j : ℕ) × (j < length ms) × (above_mark ms z j ≤ℤ pos 0)
+    above_at u hu lu is vu zv =
+        let (j, below, same) = number u has hu lu is in
+        let m = get_or ms j nowhere in
+        let um : LeY u m = omega (arith, linear, same.1) in
+        (j, below, omega (arith, linear, leX_trans (flip z) (flip u) (flip m) hz hu (mark_point j below) (leX_trans (flip z) (flip v) (flip u) hz hv hu zv vu) um))
 
-      at : (u : Vector) → IsPoint u → SameX l u → IsMark u b.piece → LeY u z → (j : ℕ) × (j < length ms) × (pos 0 ≤ℤ above_mark ms z j)
-      at u hu lu is le =
-          let (j, below, same) = number u b.has hu lu is in
-          let m = get_or ms j nowhere in
-          let mu : LeY m u = omega (arith, linear, same.1) in
-          (j, below, omega (arith, linear, leX_trans (flip m) (flip u) (flip z) (mark_point j below) hu hz mu le))
+    mark_below : LeY v z → (j : ℕ) × (j < length ms) × (pos 0 ≤ℤ above_mark ms z j)
+    mark_below vz = elim (shape p.part d.part.onward) [
+      | rises h ↦ below_at v hv lv (inr (inr (h, on))) (omega (arith, linear)) vz
+      | upright e up ↦
+          let u = upright_at p.part v d.part.points hv e up on in
+          below_at p.part.a d.part.points.0 (order_x.trans l v p.part.a line.point hv d.part.points.0 lv (sym u.level)) (inl (refl, refl)) u.low vz
+    ]
 
-      by : Shape b.piece.part → (j : ℕ) × (j < length ms) × (pos 0 ≤ℤ above_mark ms z j)
-      by (rises h) = at b.point b.is_point lv (inr (inr (h, b.on))) (le_of_lt b.is.1)
-      by (upright e up) =
-          let u = upright_at b.piece.part b.point d.part.points b.is_point e up b.on in
-          at b.piece.part.a d.part.points.0 (order_x.trans l b.point b.piece.part.a line.point b.is_point d.part.points.0 lv (sym u.level)) (inl (refl, refl))
-          (leX_trans (flip b.piece.part.a) (flip b.point) (flip z) d.part.points.0 b.is_point hz u.low (le_of_lt b.is.1))
-
-  mark_above : (z : Vector) → IsPoint z → SameX l z → IsClearOf sums room z → (j : ℕ) × (j < length ms) × (above_mark ms z j ≤ℤ pos 0)
-  mark_above z hz lz clear = by (shape b.piece.part d.part.onward)
-    where
-      b : Hit pieces (λ v. SameX z v × LtY z v)
-      b = overhead line.known z hz clear
-
-      d : IsPiece sums room b.piece
-      d = piece_of line.known b.has
-
-      lv : SameX l b.point
-      lv = order_x.trans l z b.point line.point hz b.is_point lz b.is.0
-
-      at : (u : Vector) → IsPoint u → SameX l u → IsMark u b.piece → LeY z u → (j : ℕ) × (j < length ms) × (above_mark ms z j ≤ℤ pos 0)
-      at u hu lu is le =
-          let (j, below, same) = number u b.has hu lu is in
-          let m = get_or ms j nowhere in
-          let um : LeY u m = omega (arith, linear, same.1) in
-          (j, below, omega (arith, linear, leX_trans (flip z) (flip u) (flip m) hz hu (mark_point j below) le um))
-
-      by : Shape b.piece.part → (j : ℕ) × (j < length ms) × (above_mark ms z j ≤ℤ pos 0)
-      by (rises h) = at b.point b.is_point lv (inr (inr (h, b.on))) (le_of_lt b.is.1)
-      by (upright e up) =
-          let u = upright_at b.piece.part b.point d.part.points b.is_point e up b.on in
-          at b.piece.part.b d.part.points.1 (order_x.trans l b.piece.part.a b.piece.part.b line.point d.part.points.0 d.part.points.1 (order_x.trans l b.point b.piece.part.a line.point b.is_point d.part.points.0 lv (sym u.level)) e) (inr (inl (refl, refl)))
-          (leX_trans (flip z) (flip b.point) (flip b.piece.part.b) hz b.is_point d.part.points.1 (le_of_lt b.is.1) u.high)
+    mark_above : LeY z v → (j : ℕ) × (j < length ms) × (above_mark ms z j ≤ℤ pos 0)
+    mark_above zv = elim (shape p.part d.part.onward) [
+      | rises h ↦ above_at v hv lv (inr (inr (h, on))) (omega (arith, linear)) zv
+      | upright e up ↦
+          let u = upright_at p.part v d.part.points hv e up on in
+          let la = order_x.trans l v p.part.a line.point hv d.part.points.0 lv (sym u.level) in
+          above_at p.part.b d.part.points.1 (order_x.trans l p.part.a p.part.b line.point d.part.points.0 d.part.points.1 la e) (inr (inl (refl, refl))) u.high zv
+    ]
 
   pub in_a_wall : (z : Vector) → IsPoint z → SameX l z → IsClearOf sums room z → (i : ℕ) × (suc i < length ms) × InWall l (get_or ms i nowhere) (get_or ms (suc i) nowhere) z
   in_a_wall z hz lz clear =
-      let u = mark_below z hz lz clear in
-      let v = mark_above z hz lz clear in
+      let b = beneath line.known z hz clear in
+      let o = overhead line.known z hz clear in
+      let u = mark_below z hz b.has b.point b.is_point (order_x.trans l z b.point line.point hz b.is_point lz b.is.0) b.on (le_of_lt b.is.1) in
+      let v = mark_above z hz o.has o.point o.is_point (order_x.trans l z o.point line.point hz o.is_point lz o.is.0) o.on (le_of_lt o.is.1) in
       by (drops (length ms) (above_mark ms z) (fall z hz) u.0 v.0 u.1 v.1 u.2 v.2)
     where
       by : DropsOrZero (length ms) (above_mark ms z) → (i : ℕ) × (suc i < length ms) × InWall l (get_or ms i nowhere) (get_or ms (suc i) nowhere) z
