@@ -4,3 +4,4 @@ pub mod Heights
 pub mod Marks
 pub mod Size
 pub mod Exist
+pub mod Grown

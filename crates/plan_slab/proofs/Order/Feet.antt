@@ -7,8 +7,8 @@ use Rattle.plan_exact.specs.Vectors.{env}
 use Rattle.plan_exact.proofs.Ring.{ring}
 use Rattle.plan_exact.proofs.Certificates.{lt_from}
 use Rattle.plan_exact.proofs.Laws.{linear}
-use Rattle.plan_exact.proofs.Signs.{signs, mul_pos}
-use Rattle.plan_spec.specs.Vector.{Vector, IsPoint, LtX, SameX, turn}
+use Rattle.plan_exact.proofs.Signs.{signs, mul_pos, pos_of_mul, zero_of_mul}
+use Rattle.plan_spec.specs.Vector.{Vector, IsPoint, LtX, LtY, SameX, SameY, turn}
 use Rattle.plan_spec.specs.Segment.{Segment}
 use Rattle.plan_spec.specs.Regions.{foot, mediant}
 use Rattle.plan_spec.specs.Slabs.{InSlab}
@@ -31,10 +31,6 @@ foot_same_x s z = ring (env [] (s.a ∷ s.b ∷ z ∷ [])) ((formal_foot A B C).
 
 pub foot_in_line : (s : Segment) (z : Vector) → turn s.a s.b (foot s z) ≡ pos 0
 foot_in_line s z = ring (env [] (s.a ∷ s.b ∷ z ∷ [])) (F.det A B (formal_foot A B C)) F.zero tt
-
--- how far z is above the foot
-pub foot_height : (s : Segment) (z : Vector) → z.y *ℤ run s -ℤ (foot s z).y ≡ turn s.a s.b z
-foot_height s z = ring (env [] (s.a ∷ s.b ∷ z ∷ [])) (C.y ⊗ formal_right A B ⊖ (formal_foot A B C).y) (F.det A B C) tt
 
 -- how far the foot on s is above t, by the sides of z, and by heights
 pub foot_side : (s t : Segment) (z : Vector) → turn t.a t.b (foot s z) ≡ run s *ℤ turn t.a t.b z -ℤ run t *ℤ turn s.a s.b z
@@ -71,3 +67,19 @@ by_height m = record {
   apart = λ s t. order_x.apart (height m s) (height m t);
   total = λ s t. order_x.total (height m s) (height m t);
 }
+
+-- ---- the same by the feet themselves
+feet : (s t : Segment) (m : Vector) → (foot t m).y *ℤ (foot s m).w -ℤ (foot s m).y *ℤ (foot t m).w ≡ m.w *ℤ ((foot t m).y *ℤ run s -ℤ (foot s m).y *ℤ run t)
+feet s t m = ring (env [] (s.a ∷ s.b ∷ t.a ∷ t.b ∷ m ∷ [])) ((formal_foot C D E).y ⊗ (formal_foot A B E).w ⊖ (formal_foot A B E).y ⊗ (formal_foot C D E).w) (E.w ⊗ ((formal_foot C D E).y ⊗ formal_right A B ⊖ (formal_foot A B E).y ⊗ formal_right C D)) tt
+
+pub lower_by_feet : (s t : Segment) (m : Vector) → IsPoint m → LtY (foot s m) (foot t m) → Lower m s t
+lower_by_feet s t m hm h =
+    let d = (foot t m).y *ℤ run s -ℤ (foot s m).y *ℤ run t in
+    let p : pos 0 <ℤ (m.w *ℤ d) = omega (arith, linear, feet s t m, h) in
+    omega (arith, linear, pos_of_mul {b = d} hm p)
+
+pub level_by_feet : (s t : Segment) (m : Vector) → IsPoint m → SameY (foot s m) (foot t m) → Level m s t
+level_by_feet s t m hm e =
+    let d = (foot t m).y *ℤ run s -ℤ (foot s m).y *ℤ run t in
+    let z : m.w *ℤ d ≡ pos 0 = omega (arith, linear, feet s t m, e) in
+    omega (arith, linear, zero_of_mul m.w d hm z)

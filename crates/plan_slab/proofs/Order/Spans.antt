@@ -1,19 +1,19 @@
 -- The first piece of each height at the mediant of a slab, by rising heights, gives the spans of the slab.
-use Rattle.std.proofs.Common.{◌≡◌, inl, inr, ℕ, ◌<◌, ◌≤◌, List, length, map, get_or, All, AllPairs, Any, ap, refl, sym, subst, arith}
+use Rattle.std.proofs.Common.{◌≡◌, inl, inr, ℕ, ◌<◌, ◌≤◌, suc, List, [], ◌∷◌, length, map, get_or, All, AllPairs, Any, ap, ap₂, refl, sym, subst, arith}
 use Rattle.std.proofs.lemmas.Bool.{cases_order}
 use Rattle.std.proofs.lemmas.List.{get_or_default}
 use Rattle.std.proofs.lemmas.List.Elements.{All-map}
 use Rattle.plan_exact.proofs.Laws.{linear}
-use Rattle.plan_spec.specs.Vector.{Vector}
+use Rattle.plan_spec.specs.Vector.{Vector, IsPoint, LtY, SameY}
 use Rattle.plan_spec.specs.Segment.{Segment}
 use Rattle.plan_spec.specs.Frame.{Frame}
 use Rattle.plan_spec.specs.Pieces.{Piece, piece}
-use Rattle.plan_spec.specs.Regions.{mediant}
+use Rattle.plan_spec.specs.Regions.{mediant, foot}
 use Rattle.plan_spec.specs.Slabs.{nothing, piece_at, Reaches, LiesOn, Below, IsSpan, AreSpans}
 use Rattle.plan_plane.proofs.Lists.{any_with, any_to_map, all_pairs_map}
 use Rattle.plan_slab.specs.Levels.{Lower, Level, strand, AreLevels}
 use Rattle.plan_slab.proofs.Order.Across.{IsSlab}
-use Rattle.plan_slab.proofs.Order.Feet.{by_height, mediant_inside, mediant_point}
+use Rattle.plan_slab.proofs.Order.Feet.{by_height, lower_by_feet, level_by_feet, mediant_inside, mediant_point}
 use Rattle.plan_slab.proofs.Order.OneOrder.{IsStrand, is_strand, run_pos, lies_level, level_lies, lower_below, pieces_meet}
 use Rattle.plan_slab.proofs.ByNumber.{at_number}
 use Rattle.plan_slab.proofs.Pieces.{IsPiece, HasPieces}
@@ -82,3 +82,39 @@ module _ {sums : List (List Vector)} {room : Frame} {pieces : List Piece} {l r :
 
   pub levels_are_spans : AreSpans sums room pieces l r (map (λ n. strand sums room (piece_at pieces n)) ns)
   levels_are_spans = record { order = order; each = each; all = all }
+
+map_through : {X : Type 0} (number : X → ℕ) (edge : ℕ → Segment) (seen : X → Segment) (xs : List X) → All (λ x. seen x ≡ edge (number x)) xs → map edge (map number xs) ≡ map seen xs
+map_through number edge seen [] h = refl
+map_through number edge seen (x ∷ xs) h = ap₂ (λ y ys. y ∷ ys) (sym (h 0 x (omega arith))) (map_through number edge seen xs (λ k d within. h (suc k) d (omega arith)))
+
+-- the same for what carries the numbers and the edges of pieces, by the feet on the edges
+pub spans_from : {X : Type 0} {sums : List (List Vector)} {room : Frame} {pieces : List Piece} {l r : Vector} (number : X → ℕ) (seen : X → Segment) (xs : List X) → HasPieces sums room pieces → IsSlab l r
+    → All (λ x. (number x < length pieces) × Reaches l r (piece_at pieces (number x))) xs → All (λ x. seen x ≡ strand sums room (piece_at pieces (number x))) xs
+    → AllPairs (λ x y. LtY (foot (seen x) (mediant l r)) (foot (seen y) (mediant l r))) xs
+    → ((j : ℕ) → j < length pieces → Reaches l r (piece_at pieces j) → Any (λ x. (number x ≤ j) × SameY (foot (seen x) (mediant l r)) (foot (strand sums room (piece_at pieces j)) (mediant l r))) xs)
+    → AreSpans sums room pieces l r (map seen xs)
+spans_from {X} {sums} {room} {pieces} {l} {r} number seen xs known slab goes on_edge rising all = subst (AreSpans sums room pieces l r) same (levels_are_spans known slab levels)
+  where
+    edge : ℕ → Segment
+    edge n = strand sums room (piece_at pieces n)
+
+    hm : IsPoint (mediant l r)
+    hm = mediant_point l r slab.left_point slab.right_point
+
+    rises : (i j : ℕ) (d : X) → i < j → j < length xs → Lower (mediant l r) (edge (number (get_or xs i d))) (edge (number (get_or xs j d)))
+    rises i j d less within =
+        let x = get_or xs i d in
+        let y = get_or xs j d in
+        subst (λ t. Lower (mediant l r) (edge (number x)) t) (on_edge j d within) (subst (λ s. Lower (mediant l r) s (seen y)) (on_edge i d (omega arith)) (lower_by_feet (seen x) (seen y) (mediant l r) hm (rising i j d less within)))
+
+    levels : AreLevels sums room pieces l r (map number xs)
+    levels = record {
+      each = All-map (λ n. (n < length pieces) × Reaches l r (piece_at pieces n)) number xs goes;
+      rising = all_pairs_map (λ i j. Lower (mediant l r) (strand sums room (piece_at pieces i)) (strand sums room (piece_at pieces j))) number xs rises;
+      all = λ j within reach. any_to_map (λ n. (n ≤ j) × Level (mediant l r) (strand sums room (piece_at pieces n)) (strand sums room (piece_at pieces j))) number xs
+          (any_with (λ x. seen x ≡ edge (number x)) (λ x. (number x ≤ j) × SameY (foot (seen x) (mediant l r)) (foot (edge j) (mediant l r))) (λ x. (number x ≤ j) × Level (mediant l r) (edge (number x)) (edge j))
+          (λ x e f. (f.0, subst (λ s. Level (mediant l r) s (edge j)) e (level_by_feet (seen x) (edge j) (mediant l r) hm f.1))) xs on_edge (all j within reach));
+    }
+
+    same : map (λ n. strand sums room (piece_at pieces n)) (map number xs) ≡ map seen xs
+    same = map_through number edge seen xs on_edge

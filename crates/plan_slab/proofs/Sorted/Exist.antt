@@ -24,7 +24,7 @@ use Rattle.plan_slab.proofs.Order.OneOrder.{is_strand, run_pos}
 use Rattle.plan_slab.proofs.Order.Spans.{levels_are_spans}
 use Rattle.plan_slab.proofs.Pieces.{IsPiece, HasPieces}
 use Rattle.plan_slab.proofs.Sorted.Lines.{ends, end_points, lines_from}
-use Rattle.plan_slab.proofs.Sorted.Marks.{on_line, height_points, marks_from}
+use Rattle.plan_slab.proofs.Sorted.Marks.{on_line, mark_points, marks_from, of_pieces, each_piece}
 
 -- ---- the first number below n that has P
 record First (P : ℕ → Type 0) (n : ℕ) : Type 0 where
@@ -205,8 +205,10 @@ module _ {sums : List (List Vector)} {room : Frame} {pieces : List Piece} (known
 
   marks_exist : (l : Vector) → IsPoint l → (ms : List Vector) × AreMarks pieces l ms
   marks_exist l hl =
-      let (ms, r) = rising_of (on_line l hl) (flat_map (heights l) pieces) (height_points known l hl) in
-      (ms, marks_from known l hl ms r)
+      let all = of_pieces known l hl in
+      let each = each_piece known l hl in
+      let (ms, r) = rising_of (on_line l hl) (flat_map (heights l) pieces) (mark_points pieces l hl (λ p. p) (heights l) pieces all each) in
+      (ms, marks_from pieces l hl (λ p. p) (heights l) pieces all each ms r)
 
   pub slabs_exist : (σ : Slabs) × AreSlabs sums room pieces σ
   slabs_exist =

@@ -23,7 +23,7 @@ use Rattle.plan_plane.proofs.Rising.ByCoordinate.{order_x}
 use Rattle.plan_plane.proofs.Segment.Between.{on, between_first, between_second}
 use Rattle.plan_plane.proofs.Segment.ByX.{leX_trans}
 use Rattle.plan_plane.proofs.Segment.Line.{formal_right, formal_above, on_line}
-use Rattle.plan_plane.proofs.Segment.Same.{on_same, Same-swapped}
+use Rattle.plan_plane.proofs.Segment.Same.{on_same, Same-swapped, Same-trans}
 use Rattle.plan_slab.specs.Levels.{run, heights}
 use Rattle.plan_slab.proofs.Order.Feet.{foot_point, foot_same_x, foot_in_line}
 
@@ -68,43 +68,37 @@ module _ (l : Vector) (p : Piece) (hl : IsPoint l) (hp : HasPoints p.part) where
       by (inl h) = h
       by (inr h) = absurd (omega (arith, linear, lt, leX_trans p.part.b z p.part.a hp.1 hz hp.0 h.0 h.1))
 
-  crossed : LtX p.part.a p.part.b → LeX p.part.a l → LeX l p.part.b → PieceMarks l p (foot p.part l ∷ [])
-  crossed lt low high = record {
-    points = All-cons (OnLine l) f [] (hf, sym (foot_same_x p.part l)) (All-nil (OnLine l));
+  -- any point of the piece on the line is its one mark there
+  pub crossed : LtX p.part.a p.part.b → (v : Vector) → OnLine l v → On p.part v → PieceMarks l p (v ∷ [])
+  crossed lt v hv on_it = record {
+    points = All-cons (OnLine l) v [] hv (All-nil (OnLine l));
     exact = λ z hz e. (
-      λ h. any_here (Same z) (foot p.part l) [] (same z hz e (on_piece lt z hz h)),
-      λ h. ⊎_elim (λ k. inr (inr (lt, on_same p.part.a p.part.b (foot p.part l) z hp.0 hp.1 hf hz (Same-swapped z (foot p.part l) k) on_it))) (λ n. absurd (any_none (Same z) n)) (any_cases (Same z) (foot p.part l) [] h),
+      λ h. any_here (Same z) v [] (same z hz e (on_piece lt z hz h)),
+      λ h. ⊎_elim (λ k. inr (inr (lt, on_same p.part.a p.part.b v z hp.0 hp.1 hv.0 hz (Same-swapped z v k) on_it))) (λ n. absurd (any_none (Same z) n)) (any_cases (Same z) v [] h),
     );
   }
     where
-      f : Vector
-      f = foot p.part l
+      same : (z : Vector) → IsPoint z → SameX l z → On p.part z → Same z v
+      same z hz e m = let x : SameX z v = order_x.trans z l v hz hl hv.0 (sym e) hv.1 in (x, one_point p.part.a p.part.b v z lt on_it.in_line m.in_line x)
 
-      runs : pos 0 <ℤ run p.part
-      runs = omega (arith, linear)
-
-      hf : IsPoint (foot p.part l)
-      hf = foot_point p.part l runs hl
-
-      on_it : On p.part (foot p.part l)
-      on_it =
-          let fl : LeX (foot p.part l) l = omega (arith, linear, foot_same_x p.part l) in
-          let lf : LeX l (foot p.part l) = omega (arith, linear, foot_same_x p.part l) in
-          on_line p.part.a p.part.b p.part.a p.part.b (foot p.part l) lt (on (between_first p.part.a p.part.b hp.0)).in_line (on (between_second p.part.a p.part.b hp.1)).in_line (foot_in_line p.part l)
-          (leX_trans p.part.a l (foot p.part l) hp.0 hl hf low lf) (leX_trans (foot p.part l) l p.part.b hf hl hp.1 fl high)
-
-      same : (z : Vector) → IsPoint z → SameX l z → On p.part z → Same z (foot p.part l)
-      same z hz e m =
-          let x : SameX z (foot p.part l) = order_x.trans z l (foot p.part l) hz hl hf (sym e) (sym (foot_same_x p.part l)) in
-          (x, one_point p.part.a p.part.b (foot p.part l) z lt (foot_in_line p.part l) m.in_line x)
+  foot_on : LtX p.part.a p.part.b → LeX p.part.a l → LeX l p.part.b → OnLine l (foot p.part l) × On p.part (foot p.part l)
+  foot_on lt low high =
+      let runs : pos 0 <ℤ run p.part = omega (arith, linear) in
+      let hf = foot_point p.part l runs hl in
+      let fl : LeX (foot p.part l) l = omega (arith, linear, foot_same_x p.part l) in
+      let lf : LeX l (foot p.part l) = omega (arith, linear, foot_same_x p.part l) in (
+        (hf, sym (foot_same_x p.part l)),
+        on_line p.part.a p.part.b p.part.a p.part.b (foot p.part l) lt (on (between_first p.part.a p.part.b hp.0)).in_line (on (between_second p.part.a p.part.b hp.1)).in_line (foot_in_line p.part l)
+            (leX_trans p.part.a l (foot p.part l) hp.0 hl hf low lf) (leX_trans (foot p.part l) l p.part.b hf hl hp.1 fl high),
+      )
 
   -- ---- upright
-  upright : SameX p.part.a p.part.b → SameX p.part.a l → PieceMarks l p (p.part.a ∷ p.part.b ∷ [])
-  upright e at = record {
-    points = All-cons (OnLine l) p.part.a (p.part.b ∷ []) (hp.0, sym at) (All-cons (OnLine l) p.part.b [] (hp.1, order_x.trans l p.part.a p.part.b hl hp.0 hp.1 (sym at) e) (All-nil (OnLine l)));
+  pub upright : SameX p.part.a p.part.b → (u v : Vector) → OnLine l u → OnLine l v → Same u p.part.a → Same v p.part.b → PieceMarks l p (u ∷ v ∷ [])
+  upright e u v hu hv a b = record {
+    points = All-cons (OnLine l) u (v ∷ []) hu (All-cons (OnLine l) v [] hv (All-nil (OnLine l)));
     exact = λ z hz f. (
-      λ h. ⊎_elim (any_here (Same z) p.part.a (p.part.b ∷ [])) (λ k. ⊎_elim (λ m. any_there (Same z) p.part.a (p.part.b ∷ []) (any_here (Same z) p.part.b [] m)) (λ m. absurd (order_x.apart p.part.a p.part.b hp.0 hp.1 m.0 e)) k) h,
-      λ h. ⊎_elim inl (λ k. ⊎_elim (λ m. inr (inl m)) (λ n. absurd (any_none (Same z) n)) (any_cases (Same z) p.part.b [] k)) (any_cases (Same z) p.part.a (p.part.b ∷ []) h),
+      λ h. ⊎_elim (λ k. any_here (Same z) u (v ∷ []) (Same-trans z p.part.a u hp.0 k (Same-swapped u p.part.a a))) (λ k. ⊎_elim (λ m. any_there (Same z) u (v ∷ []) (any_here (Same z) v [] (Same-trans z p.part.b v hp.1 m (Same-swapped v p.part.b b)))) (λ m. absurd (order_x.apart p.part.a p.part.b hp.0 hp.1 m.0 e)) k) h,
+      λ h. ⊎_elim (λ k. inl (Same-trans z u p.part.a hu.0 k a)) (λ k. ⊎_elim (λ m. inr (inl (Same-trans z v p.part.b hv.0 m b))) (λ n. absurd (any_none (Same z) n)) (any_cases (Same z) v [] k)) (any_cases (Same z) u (v ∷ []) h),
     );
   }
 
@@ -116,16 +110,41 @@ module _ (l : Vector) (p : Piece) (hl : IsPoint l) (hp : HasPoints p.part) where
       by z hz f (inr (inl h)) = off (order_x.trans p.part.a p.part.b l hp.0 hp.1 hl e (order_x.trans p.part.b z l hp.1 hz hl (sym h.0) (sym f)))
       by z hz f (inr (inr h)) = order_x.apart p.part.a p.part.b hp.0 hp.1 h.0 e
 
+  -- what a piece marks is in its range
+  pub outside : ¬ (LtX p.part.b p.part.a) → ¬ (LeX p.part.a l × LeX l p.part.b) → PieceMarks l p []
+  outside onward off = no_marks by
+    where
+      low : LeX p.part.a p.part.b
+      low = elim (le_or_lt (p.part.a.x *ℤ p.part.b.w) (p.part.b.x *ℤ p.part.a.w)) [
+        | inl h ↦ h
+        | inr h ↦ absurd (onward h)
+      ]
+
+      by : (z : Vector) → IsPoint z → SameX l z → IsMark z p → ⊥
+      by z hz f (inl h) =
+          let e = order_x.trans p.part.a z l hp.0 hz hl (sym h.0) (sym f) in
+          let al : LeX p.part.a l = omega (arith, linear, e) in
+          let la : LeX l p.part.a = omega (arith, linear, e) in
+          off (al, leX_trans l p.part.a p.part.b hl hp.0 hp.1 la low)
+      by z hz f (inr (inl h)) =
+          let e = order_x.trans p.part.b z l hp.1 hz hl (sym h.0) (sym f) in
+          let bl : LeX p.part.b l = omega (arith, linear, e) in
+          let lb : LeX l p.part.b = omega (arith, linear, e) in
+          off (leX_trans p.part.a p.part.b l hp.0 hp.1 hl low bl, lb)
+      by z hz f (inr (inr h)) = off (line_within h.0 z hz f h.1)
+
   -- ---- as it is computed
   pub piece_heights : ¬ (LtX p.part.b p.part.a) → PieceMarks l p (heights l p)
   piece_heights onward = by (int_lt (p.part.a.x *ℤ p.part.b.w) (p.part.b.x *ℤ p.part.a.w)) refl
     where
       ranged : LtX p.part.a p.part.b → (t : Bool) → (int_le (p.part.a.x *ℤ l.w) (l.x *ℤ p.part.a.w) && int_le (l.x *ℤ p.part.b.w) (p.part.b.x *ℤ l.w)) ≡ t → PieceMarks l p (cond t (foot p.part l ∷ []) [])
-      ranged lt true e = let r = and_parts _ _ e in crossed lt (le_from_true _ _ r.0) (le_from_true _ _ r.1)
+      ranged lt true e = let r = and_parts _ _ e in let f = foot_on lt (le_from_true _ _ r.0) (le_from_true _ _ r.1) in crossed lt (foot p.part l) f.0 f.1
       ranged lt false e = no_marks (λ z hz f m. let r = line_within lt z hz f (on_piece lt z hz m) in let g = and_from _ _ (le_true r.0) (le_true r.1) in absurd (cc))
 
       at_line : SameX p.part.a p.part.b → (t : Bool) → int_eq (p.part.a.x *ℤ l.w) (l.x *ℤ p.part.a.w) ≡ t → PieceMarks l p (cond t (p.part.a ∷ p.part.b ∷ []) [])
-      at_line same true e = upright same ((Decides-int_eq (p.part.a.x *ℤ l.w) (l.x *ℤ p.part.a.w)).0 e)
+      at_line same true e =
+          let at : SameX l p.part.a = sym ((Decides-int_eq (p.part.a.x *ℤ l.w) (l.x *ℤ p.part.a.w)).0 e) in
+          upright same p.part.a p.part.b (hp.0, at) (hp.1, order_x.trans l p.part.a p.part.b hl hp.0 hp.1 at same) (refl, refl) (refl, refl)
       at_line same false e = aside same (λ f. let g = (Decides-int_eq (p.part.a.x *ℤ l.w) (l.x *ℤ p.part.a.w)).1 f in absurd (cc))
 
       level : LeX p.part.b p.part.a → SameX p.part.a p.part.b

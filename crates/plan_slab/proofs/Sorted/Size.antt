@@ -16,14 +16,14 @@ use Rattle.plan_plane.proofs.Rising.ByCoordinate.{order_x}
 use Rattle.plan_plane.proofs.Rising.Lists.{one_rising, same_length, same_rising}
 use Rattle.plan_plane.proofs.Segment.ByX.{leX_trans, leX_ltX, ltX_leX}
 use Rattle.plan_slab.specs.FirstSlabs.{AreFirst}
-use Rattle.plan_slab.specs.Levels.{Lower, Level}
+use Rattle.plan_slab.specs.Levels.{Lower, Level, heights}
 use Rattle.plan_slab.proofs.Order.Across.{IsSlab}
 use Rattle.plan_slab.proofs.Order.Feet.{Runs, by_height, foot_point, foot_in_line, foot_level, mediant_inside, mediant_point}
 use Rattle.plan_slab.proofs.Order.OneOrder.{run_pos, foot_inside, lies_level}
 use Rattle.plan_slab.proofs.Pieces.{IsPiece, HasPieces}
 use Rattle.plan_slab.proofs.Regions.SpanLines.{has_piece}
 use Rattle.plan_slab.proofs.Sorted.Lines.{end_points, lines_to}
-use Rattle.plan_slab.proofs.Sorted.Marks.{on_line, height_points, marks_to}
+use Rattle.plan_slab.proofs.Sorted.Marks.{on_line, mark_points, marks_to, of_pieces, each_piece}
 
 -- ---- the spans of one slab
 -- below throughout, so lower at each point
@@ -73,7 +73,10 @@ module _ {sums : List (List Vector)} {room : Frame} {pieces : List Piece} (known
   }
 
   pub same_marks : (l l2 : Vector) (ms ns : List Vector) → IsPoint l → IsPoint l2 → SameX l l2 → AreMarks pieces l ms → AreMarks pieces l2 ns → length ms ≡ length ns
-  same_marks l l2 ms ns hl hl2 e are are2 = same_length (on_line l hl) _ ms ns (height_points known l hl) (marks_to known l hl ms are) (marks_to known l hl ns (same_line l l2 ns hl hl2 e are2))
+  same_marks l l2 ms ns hl hl2 e are are2 =
+      let all = of_pieces known l hl in
+      let each = each_piece known l hl in
+      same_length (on_line l hl) _ ms ns (mark_points pieces l hl (λ p. p) (heights l) pieces all each) (marks_to pieces l hl (λ p. p) (heights l) pieces all each ms are) (marks_to pieces l hl (λ p. p) (heights l) pieces all each ns (same_line l l2 ns hl hl2 e are2))
 
   -- ---- lines
   piece_points : All (λ p. HasPoints p.part) pieces
