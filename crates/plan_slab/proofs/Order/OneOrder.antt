@@ -1,6 +1,5 @@
 -- Of two pieces that go across a slab the one is below the other throughout, or they lie on one line; the heights at any one point of the slab decide.
 use Rattle.std.proofs.Common.{◌≡◌, ◌⊎◌, inl, inr, ℤ, pos, ◌+ℤ◌, ◌*ℤ◌, neg_ℤ, ◌≤ℤ◌, ◌<ℤ◌, Bool, true, false, cond, int_lt, List, [], ◌∷◌, refl, ◌∙◌, arith}
-use Rattle.std.proofs.lemmas.Int.{ints}
 use Rattle.plan_exact.specs.Expr.{var, con, ◌⊕◌, ◌⊗◌, neg}
 use Rattle.plan_exact.specs.Formal as F
 use Rattle.plan_exact.specs.Formal.{A, B, C, D, E}
@@ -9,6 +8,7 @@ use Rattle.plan_exact.proofs.Certificates.{eq_from}
 use Rattle.plan_exact.proofs.Laws.{linear}
 use Rattle.plan_exact.proofs.Ring.{ring}
 use Rattle.plan_exact.proofs.Signs.{signs, zeros, le_or_lt, le_of_lt, mul_pos, mul_nonneg, mul_of_zero, mul_nonneg_nonpos, neg_pos}
+use Rattle.plan_exact.proofs.Tests.{lt_from_true, le_from_false}
 use Rattle.plan_exact.proofs.Vectors.{dot_combination_right, det_swapped}
 use Rattle.plan_spec.specs.Vector.{Vector, IsPoint, LeX, LtX, turn}
 use Rattle.plan_spec.specs.Segment.{Segment, segment, HasPoints, On}
@@ -28,12 +28,6 @@ use Rattle.plan_slab.proofs.Order.Feet.{foot_point, foot_same_x, foot_in_line, f
 use Rattle.plan_slab.proofs.Pieces.{IsPiece}
 
 -- ---- an edge from left to right
-if_less : (x y : _) → int_lt x y ≡ true → x <ℤ y
-if_less x y e = omega (arith, ints)
-
-unless_less : (x y : _) → int_lt x y ≡ false → ¬ (x <ℤ y)
-unless_less x y e h = omega (arith, ints)
-
 -- s is from left to right on the line of e
 record IsRightward (e s : Segment) : Type 0 where
   rises : LtX s.a s.b
@@ -43,9 +37,9 @@ rightward_is : (e : Segment) → LtX e.a e.b ⊎ LtX e.b e.a → IsRightward e (
 rightward_is e h = by (int_lt (e.b.x *ℤ e.a.w) (e.a.x *ℤ e.b.w)) refl h
   where
     by : (t : Bool) → int_lt (e.b.x *ℤ e.a.w) (e.a.x *ℤ e.b.w) ≡ t → LtX e.a e.b ⊎ LtX e.b e.a → IsRightward e (cond t (segment e.b e.a) e)
-    by true p h = record { rises = if_less (e.b.x *ℤ e.a.w) (e.a.x *ℤ e.b.w) p; same = λ w z. omega (arith, linear, det_swapped e.b e.a w) }
+    by true p h = record { rises = lt_from_true (e.b.x *ℤ e.a.w) (e.a.x *ℤ e.b.w) p; same = λ w z. omega (arith, linear, det_swapped e.b e.a w) }
     by false p (inl h) = record { rises = h; same = λ w z. z }
-    by false p (inr h) = absurd (unless_less (e.b.x *ℤ e.a.w) (e.a.x *ℤ e.b.w) p h)
+    by false p (inr h) = absurd (omega (arith, linear, h, le_from_false (e.b.x *ℤ e.a.w) (e.a.x *ℤ e.b.w) p))
 
 -- s is from left to right, and the piece, on its line, goes across
 pub record IsStrand (l r : Vector) (s : Segment) (p : Piece) : Type 0 where

@@ -1,5 +1,5 @@
 -- The marks of one piece on a line are its heights there: the foot of the line where the piece is from left to right and the line in its range, both ends where it is upright and on the line.
-use Rattle.std.proofs.Common.{◌≡◌, ◌↔◌, ◌⊎◌, inl, inr, ⊎_elim, ℤ, pos, ◌-ℤ◌, ◌≤ℤ◌, ◌*ℤ◌, ◌<ℤ◌, Bool, true, false, ◌&&◌, cond, int_lt, int_le, List, [], ◌∷◌, All, Any, refl, sym, arith}
+use Rattle.std.proofs.Common.{◌≡◌, ◌↔◌, inl, inr, ⊎_elim, ℤ, pos, ◌-ℤ◌, ◌≤ℤ◌, ◌*ℤ◌, ◌<ℤ◌, Bool, true, false, ◌&&◌, cond, int_lt, int_le, List, [], ◌∷◌, All, Any, refl, sym, arith}
 use Rattle.std.specs.Ordering.{int_eq}
 use Rattle.std.proofs.lemmas.Bool.{and_parts, and_from}
 use Rattle.std.proofs.lemmas.Bool.Decides.{Decides-int_eq}
@@ -13,7 +13,7 @@ use Rattle.plan_exact.proofs.Certificates.{eq_from}
 use Rattle.plan_exact.proofs.Laws.{linear}
 use Rattle.plan_exact.proofs.Signs.{zeros, le_or_lt}
 use Rattle.plan_exact.proofs.Tests.{le_true, lt_from_true, le_from_false}
-use Rattle.plan_spec.specs.Vector.{Vector, IsPoint, LtX, LeX, SameX, SameY, Same, turn}
+use Rattle.plan_spec.specs.Vector.{Vector, IsPoint, Before, LtX, LeX, SameX, SameY, Same, turn}
 use Rattle.plan_spec.specs.Segment.{HasPoints, On}
 use Rattle.plan_spec.specs.Pieces.{Piece}
 use Rattle.plan_spec.specs.Regions.{foot}
@@ -26,6 +26,7 @@ use Rattle.plan_plane.proofs.Segment.Line.{formal_right, formal_above, on_line}
 use Rattle.plan_plane.proofs.Segment.Same.{on_same, Same-swapped, Same-trans}
 use Rattle.plan_slab.specs.Levels.{run, heights}
 use Rattle.plan_slab.proofs.Order.Feet.{foot_point, foot_same_x, foot_in_line}
+use Rattle.plan_slab.proofs.Pieces.{in_range, mark_on}
 
 -- a point of the line l
 abbrev pub OnLine : Vector → Vector → Type 0
@@ -46,34 +47,17 @@ one_point a b u z lt hu hz e =
 le_from_true : (x y : ℤ) → int_le x y ≡ true → x ≤ℤ y
 le_from_true x y e = omega (arith, ints)
 
-module _ (l : Vector) (p : Piece) (hl : IsPoint l) (hp : HasPoints p.part) where
+module _ (l : Vector) (p : Piece) (hl : IsPoint l) (hp : HasPoints p.part) (onward : ¬ (Before p.part.b p.part.a)) where
   no_marks : ((z : Vector) → IsPoint z → SameX l z → ¬ (IsMark z p)) → PieceMarks l p []
   no_marks off = record { points = All-nil (OnLine l); exact = λ z hz e. (λ h. absurd (off z hz e h), λ h. absurd (any_none (Same z) h)) }
 
   -- ---- from left to right
-  on_piece : LtX p.part.a p.part.b → (z : Vector) → IsPoint z → IsMark z p → On p.part z
-  on_piece lt z hz (inl h) = on_same p.part.a p.part.b p.part.a z hp.0 hp.1 hp.0 hz (Same-swapped z p.part.a h) (on (between_first p.part.a p.part.b hp.0))
-  on_piece lt z hz (inr (inl h)) = on_same p.part.a p.part.b p.part.b z hp.0 hp.1 hp.1 hz (Same-swapped z p.part.b h) (on (between_second p.part.a p.part.b hp.1))
-  on_piece lt z hz (inr (inr h)) = h.1
-
-  -- the line is in its range
-  line_within : LtX p.part.a p.part.b → (z : Vector) → IsPoint z → SameX l z → On p.part z → LeX p.part.a l × LeX l p.part.b
-  line_within lt z hz e m =
-      let zl : LeX z l = omega (arith, linear) in
-      let lz : LeX l z = omega (arith, linear) in
-      let r = by m.within_x in
-      (leX_trans p.part.a z l hp.0 hz hl r.0 zl, leX_trans l z p.part.b hl hz hp.1 lz r.1)
-    where
-      by : (LeX p.part.a z × LeX z p.part.b) ⊎ (LeX p.part.b z × LeX z p.part.a) → LeX p.part.a z × LeX z p.part.b
-      by (inl h) = h
-      by (inr h) = absurd (omega (arith, linear, lt, leX_trans p.part.b z p.part.a hp.1 hz hp.0 h.0 h.1))
-
   -- any point of the piece on the line is its one mark there
   pub crossed : LtX p.part.a p.part.b → (v : Vector) → OnLine l v → On p.part v → PieceMarks l p (v ∷ [])
   crossed lt v hv on_it = record {
     points = All-cons (OnLine l) v [] hv (All-nil (OnLine l));
     exact = λ z hz e. (
-      λ h. any_here (Same z) v [] (same z hz e (on_piece lt z hz h)),
+      λ h. any_here (Same z) v [] (same z hz e (mark_on p z hp hz h)),
       λ h. ⊎_elim (λ k. inr (inr (lt, on_same p.part.a p.part.b v z hp.0 hp.1 hv.0 hz (Same-swapped z v k) on_it))) (λ n. absurd (any_none (Same z) n)) (any_cases (Same z) v [] h),
     );
   }
@@ -111,35 +95,20 @@ module _ (l : Vector) (p : Piece) (hl : IsPoint l) (hp : HasPoints p.part) where
       by z hz f (inr (inr h)) = order_x.apart p.part.a p.part.b hp.0 hp.1 h.0 e
 
   -- what a piece marks is in its range
-  pub outside : ¬ (LtX p.part.b p.part.a) → ¬ (LeX p.part.a l × LeX l p.part.b) → PieceMarks l p []
-  outside onward off = no_marks by
-    where
-      low : LeX p.part.a p.part.b
-      low = elim (le_or_lt (p.part.a.x *ℤ p.part.b.w) (p.part.b.x *ℤ p.part.a.w)) [
-        | inl h ↦ h
-        | inr h ↦ absurd (onward h)
-      ]
-
-      by : (z : Vector) → IsPoint z → SameX l z → IsMark z p → ⊥
-      by z hz f (inl h) =
-          let e = order_x.trans p.part.a z l hp.0 hz hl (sym h.0) (sym f) in
-          let al : LeX p.part.a l = omega (arith, linear, e) in
-          let la : LeX l p.part.a = omega (arith, linear, e) in
-          off (al, leX_trans l p.part.a p.part.b hl hp.0 hp.1 la low)
-      by z hz f (inr (inl h)) =
-          let e = order_x.trans p.part.b z l hp.1 hz hl (sym h.0) (sym f) in
-          let bl : LeX p.part.b l = omega (arith, linear, e) in
-          let lb : LeX l p.part.b = omega (arith, linear, e) in
-          off (leX_trans p.part.a p.part.b l hp.0 hp.1 hl low bl, lb)
-      by z hz f (inr (inr h)) = off (line_within h.0 z hz f h.1)
+  pub outside : ¬ (LeX p.part.a l × LeX l p.part.b) → PieceMarks l p []
+  outside off = no_marks (λ z hz e h.
+      let r = in_range p.part z hp hz onward (mark_on p z hp hz h) in
+      let zl : LeX z l = omega (arith, linear) in
+      let lz : LeX l z = omega (arith, linear) in
+      off (leX_trans p.part.a z l hp.0 hz hl r.0 zl, leX_trans l z p.part.b hl hz hp.1 lz r.1))
 
   -- ---- as it is computed
-  pub piece_heights : ¬ (LtX p.part.b p.part.a) → PieceMarks l p (heights l p)
-  piece_heights onward = by (int_lt (p.part.a.x *ℤ p.part.b.w) (p.part.b.x *ℤ p.part.a.w)) refl
+  pub piece_heights : PieceMarks l p (heights l p)
+  piece_heights = by (int_lt (p.part.a.x *ℤ p.part.b.w) (p.part.b.x *ℤ p.part.a.w)) refl
     where
       ranged : LtX p.part.a p.part.b → (t : Bool) → (int_le (p.part.a.x *ℤ l.w) (l.x *ℤ p.part.a.w) && int_le (l.x *ℤ p.part.b.w) (p.part.b.x *ℤ l.w)) ≡ t → PieceMarks l p (cond t (foot p.part l ∷ []) [])
       ranged lt true e = let r = and_parts _ _ e in let f = foot_on lt (le_from_true _ _ r.0) (le_from_true _ _ r.1) in crossed lt (foot p.part l) f.0 f.1
-      ranged lt false e = no_marks (λ z hz f m. let r = line_within lt z hz f (on_piece lt z hz m) in let g = and_from _ _ (le_true r.0) (le_true r.1) in absurd (cc))
+      ranged lt false e = outside (λ r. let g = and_from _ _ (le_true r.0) (le_true r.1) in absurd (cc))
 
       at_line : SameX p.part.a p.part.b → (t : Bool) → int_eq (p.part.a.x *ℤ l.w) (l.x *ℤ p.part.a.w) ≡ t → PieceMarks l p (cond t (p.part.a ∷ p.part.b ∷ []) [])
       at_line same true e =
@@ -150,7 +119,7 @@ module _ (l : Vector) (p : Piece) (hl : IsPoint l) (hp : HasPoints p.part) where
       level : LeX p.part.b p.part.a → SameX p.part.a p.part.b
       level h = elim (le_or_lt (p.part.a.x *ℤ p.part.b.w) (p.part.b.x *ℤ p.part.a.w)) [
         | inl k ↦ omega (arith, linear)
-        | inr k ↦ absurd (onward k)
+        | inr k ↦ absurd (onward (inl k))
       ]
 
       by : (t : Bool) → int_lt (p.part.a.x *ℤ p.part.b.w) (p.part.b.x *ℤ p.part.a.w) ≡ t

@@ -86,7 +86,7 @@ module _ {X : Type 0} (pieces : List Piece) (l : Vector) (hl : IsPoint l) (of : 
 -- all pieces have their heights
 module _ {sums : List (List Vector)} {room : Frame} {pieces : List Piece} (known : HasPieces sums room pieces) (l : Vector) (hl : IsPoint l) where
   pub of_pieces : All (λ p. Contains pieces p × PieceMarks l p (heights l p)) pieces
-  of_pieces k d within = (All-contains_itself pieces k d within, let h = known.each k d within in piece_heights l (get_or pieces k d) hl h.part.points (λ lt. h.part.onward (inl lt)))
+  of_pieces k d within = (All-contains_itself pieces k d within, let h = known.each k d within in piece_heights l (get_or pieces k d) hl h.part.points h.part.onward)
 
   pub each_piece : All (λ p. Any (λ x. x ≡ p) pieces ⊎ PieceMarks l p []) pieces
   each_piece k d within = inl (k, get_or pieces k d, within, get_or_default pieces k (get_or pieces k d) d within, refl)
@@ -99,4 +99,4 @@ on_edge {p = p} l v piece hl lt low high hv on_it =
     let lv : LeX l v = omega (arith, linear, hv.1) in
     let vl : LeX v l = omega (arith, linear, hv.1) in
     let whole = is_strand {l = p.part.a} {r = p.part.b} slab piece (omega (arith, linear), omega (arith, linear)) in
-    crossed l p hl hp lt v hv (on_strand slab whole v hv.0 (leX_trans p.part.a l v hp.0 hl hv.0 low lv) (leX_trans v l p.part.b hv.0 hl hp.1 vl high) on_it)
+    crossed l p hl hp piece.part.onward lt v hv (on_strand slab whole v hv.0 (leX_trans p.part.a l v hp.0 hl hv.0 low lv) (leX_trans v l p.part.b hv.0 hl hp.1 vl high) on_it)
