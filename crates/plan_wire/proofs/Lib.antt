@@ -1,5 +1,11 @@
 pub mod Streams
 pub mod Lists
+pub mod Bytes
+pub mod Each
+pub mod Places
+pub mod Kept
+pub mod Points
+pub mod Six
 pub mod Texts
 pub mod Fits
 pub mod Tokens

@@ -1,6 +1,6 @@
 -- The three documents, as a function of the bytes: each place with its form and its range, in the order in which they are tested.
 -- The kind of a value is tested first, then a list's length, then the parts in order, each wholly before the next.
-use Rattle.std.specs.Prelude.{ℕ, suc, zero, ◌*◌, ◌%◌, ◌&&◌, Bool, ℤ, pos, neg_ℤ, int_lt, int_le, int_div, unsigned_abs, nat_le, nat_eq, List, length, get_or, codes, if◌then◌else◌, Ok, Err}
+use Rattle.std.specs.Prelude.{ℕ, suc, zero, ◌*◌, ◌%◌, ◌&&◌, Bool, ℤ, pos, neg_ℤ, int_lt, int_le, int_div, unsigned_abs, nat_le, nat_eq, List, length, get_or, codes, Option, Some, None, option_map, option_and_then, if◌then◌else◌, Ok, Err}
 use Rattle.std.specs.Str.{is_utf8}
 use Rattle.serde_json.specs.Data.{Data}
 use Rattle.serde_json.specs.Read as json_text
@@ -55,12 +55,12 @@ unfoldable pub spot_of : Reader Vector
 spot_of place v = made (λ z. spot (nth z 0) (nth z 1)) (numbers 2 MOST_CORNER place v)
 
 -- 3 to 16 spots
-unfoldable pub robot_of : Reader (List Vector)
-robot_of place v = list_of_between 3 16 spot_of place v
+abbrev pub robot_of : Reader (List Vector)
+robot_of = list_of_between 3 16 spot_of
 
 -- 3 to 32 spots
-unfoldable pub shape_of : Reader (List Vector)
-shape_of place v = list_of_between 3 32 spot_of place v
+abbrev pub shape_of : Reader (List Vector)
+shape_of = list_of_between 3 32 spot_of
 
 -- the lower left corner strictly left of the upper right one, and strictly below it
 abbrev pub is_frame : Frame → Bool
@@ -87,8 +87,8 @@ obstacle_of place v =
     Ok (record { id = id; shape = shape }))))
 
 -- any number of obstacles
-unfoldable pub obstacles_of : Reader (List Obstacle)
-obstacles_of place v = list_of_any obstacle_of place v
+abbrev pub obstacles_of : Reader (List Obstacle)
+obstacles_of = list_of_any obstacle_of
 
 -- ---- queries
 
@@ -97,8 +97,8 @@ unfoldable pub query_of : Reader Query
 query_of place v = made (λ z. record { start = spot (nth z 0) (nth z 1); goal = spot (nth z 2) (nth z 3) }) (numbers 4 MOST_COORDINATE place v)
 
 -- 0 to 64 queries
-unfoldable pub queries_of : Reader (List Query)
-queries_of place v = list_of_between 0 64 query_of place v
+abbrev pub queries_of : Reader (List Query)
+queries_of = list_of_between 0 64 query_of
 
 -- ---- rounds
 
@@ -111,16 +111,16 @@ edit_of place v =
     else made remove (member (codes "remove") id_of place v))
 
 -- 0 to 32 edits
-unfoldable pub edits_of : Reader (List Edit)
-edits_of place v = list_of_between 0 32 edit_of place v
+abbrev pub edits_of : Reader (List Edit)
+edits_of = list_of_between 0 32 edit_of
 
 -- 0 to 16 queries
-unfoldable pub lane_of : Reader (List Query)
-lane_of place v = list_of_between 0 16 query_of place v
+abbrev pub lane_of : Reader (List Query)
+lane_of = list_of_between 0 16 query_of
 
 -- 0 to 8 lanes
-unfoldable pub lanes_of : Reader (List (List Query))
-lanes_of place v = list_of_between 0 8 lane_of place v
+abbrev pub lanes_of : Reader (List (List Query))
+lanes_of = list_of_between 0 8 lane_of
 
 -- an object with edits and lanes
 unfoldable pub round_of : Reader Round
@@ -131,8 +131,8 @@ round_of place v =
     Ok (record { edits = edits; lanes = lanes }))))
 
 -- 0 to 64 rounds
-unfoldable pub rounds_of : Reader (List Round)
-rounds_of place v = list_of_between 0 64 round_of place v
+abbrev pub rounds_of : Reader (List Round)
+rounds_of = list_of_between 0 64 round_of
 
 -- ---- certificates
 
@@ -142,40 +142,46 @@ is_point p =
     (int_le (pos 1) p.w && int_le p.w (pos MOST_WEIGHT))
     && (nat_le (unsigned_abs p.x) (MOST_COORDINATE * unsigned_abs p.w) && nat_le (unsigned_abs p.y) (MOST_COORDINATE * unsigned_abs p.w))
 
--- whether d divides all three numbers
-abbrev pub divides : ℕ → Vector → Bool
-divides d p = nat_eq (unsigned_abs p.x % d) 0 && (nat_eq (unsigned_abs p.y % d) 0 && nat_eq (unsigned_abs p.w % d) 0)
+-- the greatest common divisor, by so many steps of Euclid's algorithm
+abbrev pub gcd_by : ℕ → ℕ → ℕ → ℕ
+gcd_by zero a b = a
+gcd_by (suc n) a b = if nat_eq b 0 then a else gcd_by n b (a % b)
 
--- the greatest number up to n that divides all three
-unfoldable pub divisor_to : ℕ → Vector → ℕ
-divisor_to zero p = 1
-divisor_to (suc n) p = if divides (suc n) p then suc n else divisor_to n p
+-- the greatest common divisor
+unfoldable pub gcd : ℕ → ℕ → ℕ
+gcd a b = gcd_by (suc b) a b
 
--- the same point in lowest terms: each number over the greatest that divides all three
+-- the same point in lowest terms: each number over the greatest common divisor of all three
 unfoldable pub lowest : Vector → Vector
 lowest p =
-    let d = pos (divisor_to (unsigned_abs p.w) p) in
-    record { x = int_div p.x d; y = int_div p.y d; w = int_div p.w d }
+    let d = gcd (gcd (unsigned_abs p.x) (unsigned_abs p.y)) (unsigned_abs p.w) in
+    record { x = int_div p.x (pos d); y = int_div p.y (pos d); w = int_div p.w (pos d) }
 
--- three whole numbers x, y, w, and then the range of the point; it need not be in lowest terms
+-- the point of three numbers, which need not be in lowest terms; none where they are out of range
+unfoldable pub point_at : ℤ → ℤ → ℤ → Option Vector
+point_at x y w = if is_point (record { x = x; y = y; w = w }) then Some (lowest (record { x = x; y = y; w = w })) else None
+
+-- three whole numbers x, y, w, and then the range of the point
 unfoldable pub point_of : Reader Vector
-point_of place v =
-    made lowest (bind (made (λ z. record { x = nth z 0; y = nth z 1; w = nth z 2 }) (list_of_exactly 3 integer place v))
-    (tested is_point (range place)))
+point_of place v = bind (list_of_exactly 3 integer place v) (λ z. some_or (range place) (point_at (nth z 0) (nth z 1) (nth z 2)))
+
+-- the segment of two points; none where one of them is out of range
+abbrev pub segment_at : Option Vector → Option Vector → Option Segment
+segment_at a b = option_and_then (λ a. option_map (λ b. segment a b) b) a
 
 -- six whole numbers, x, y, w of one end and then of the other, and then the range of both points
 unfoldable pub segment_of : Reader Segment
 segment_of place v =
-    made (λ s. segment (lowest s.a) (lowest s.b)) (bind (made (λ z. segment (record { x = nth z 0; y = nth z 1; w = nth z 2 }) (record { x = nth z 3; y = nth z 4; w = nth z 5 })) (list_of_exactly 6 integer place v))
-    (tested (λ s. is_point s.a && is_point s.b) (range place)))
+    bind (list_of_exactly 6 integer place v) (λ z.
+    some_or (range place) (segment_at (point_at (nth z 0) (nth z 1) (nth z 2)) (point_at (nth z 3) (nth z 4) (nth z 5))))
 
 -- any number of points
-unfoldable pub path_of : Reader (List Vector)
-path_of place v = list_of_any point_of place v
+abbrev pub path_of : Reader (List Vector)
+path_of = list_of_any point_of
 
 -- any number of segments
-unfoldable pub chain_of : Reader (List Segment)
-chain_of place v = list_of_any segment_of place v
+abbrev pub chain_of : Reader (List Segment)
+chain_of = list_of_any segment_of
 
 -- an object with exactly one of `path` and `chain`
 unfoldable pub certificate_of : Reader Certificate

@@ -5,5 +5,6 @@ pub mod First
 pub mod Fits
 pub mod Reading
 pub mod Documents
+pub mod Place
 pub mod Seen
 pub mod Bounds

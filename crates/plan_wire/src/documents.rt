@@ -1,5 +1,13 @@
+mod certificates;
 mod fault;
+mod forms;
+mod numbers;
+mod obstacles;
+mod place;
+mod queries;
 mod read;
+mod rounds;
+mod spots;
 
 pub use fault::WireFault;
 use plan_cross::{Certificate, Query};

@@ -1,4 +1,10 @@
-use std::alloc::AllocError;
+ghost use Rattle.std.specs.Prelude.{◌≡◌, IfSome};
+ghost use Rattle.plan_wire.specs.Place.{path_of};
+ghost use Rattle.plan_wire.specs.Reading as reading;
+ghost use Rattle.plan_wire.specs.Seen.{refusal_seen};
+
+use super::place::Place;
+use std::alloc::{AllocError, Global};
 
 /// Why no document was read.
 #[derive(Debug, Drop, PartialEq, Eq)]
@@ -23,5 +29,27 @@ impl From<AllocError> for WireFault {
 
     fn from(_error: AllocError) -> WireFault {
         WireFault::NoMemory
+    }
+}
+
+impl WireFault {
+    // The form of the place is broken.
+    pub(crate) fn form(alloc: Global, place: &Place) -> WireFault
+        ensures { IfSome (refusal_seen result) (λ refusal. refusal ≡ reading.form (path_of place.now)) }
+    {
+        match place.path(alloc) {
+            Ok(path) => WireFault::Form(path),
+            Err(_) => WireFault::NoMemory,
+        }
+    }
+
+    // The place is out of range.
+    pub(crate) fn range(alloc: Global, place: &Place) -> WireFault
+        ensures { IfSome (refusal_seen result) (λ refusal. refusal ≡ reading.range (path_of place.now)) }
+    {
+        match place.path(alloc) {
+            Ok(path) => WireFault::Range(path),
+            Err(_) => WireFault::NoMemory,
+        }
     }
 }
