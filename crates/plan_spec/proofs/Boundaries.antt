@@ -7,17 +7,17 @@ use Rattle.plan_spec.specs.Frame.{Frame}
 use Rattle.plan_spec.specs.Boundary.{StrictlyInside, InRoom, IsUncovered, boundary, sides}
 use Rattle.plan_spec.specs.Pieces.{piece, numbered}
 
-abbrev at : ℤ → ℤ → Vector
+abbrev pub at : ℤ → ℤ → Vector
 at x y = spot x y
 
 -- the hexagon and the quadrangle of a bar, for a robot that is a triangle, and the room
-abbrev hexagon : List Vector
+abbrev pub hexagon : List Vector
 hexagon = at (pos 8) (negsuc 4) ∷ at (pos 9) (negsuc 5) ∷ at (pos 11) (negsuc 5) ∷ at (pos 11) (negsuc 4) ∷ at (pos 9) (pos 10) ∷ at (pos 8) (pos 10) ∷ []
 
-abbrev quadrangle : List Vector
+abbrev pub quadrangle : List Vector
 quadrangle = at (pos 8) (pos 10) ∷ at (pos 10) (negsuc 4) ∷ at (pos 11) (negsuc 5) ∷ at (pos 11) (pos 10) ∷ []
 
-abbrev room : Frame
+abbrev pub room : Frame
 room = record { low = at (pos 0) (pos 0); high = at (pos 19) (pos 19) }
 
 -- ---- numbers: 0 to 5 the hexagon's edges, 6 to 9 the quadrangle's, 10 to 13 the sides of the room
@@ -52,7 +52,7 @@ last_side : get_or all_edges 13 nothing ≡ segment (at (pos 0) (pos 0)) (at (po
 last_side = refl
 
 -- ---- the eleven pieces, by edge: single points on edges 3 and 6, two on the bottom
-abbrev parts : List (List Segment)
+abbrev pub parts : List (List Segment)
 parts =
     [] ∷ [] ∷ [] ∷ (segment (at (pos 9) (pos 10)) (at (pos 9) (pos 10)) ∷ []) ∷ (segment (at (pos 8) (pos 10)) (at (pos 9) (pos 10)) ∷ []) ∷ (segment (at (pos 8) (pos 0)) (at (pos 8) (pos 10)) ∷ [])
     ∷ (segment (at (pos 8) (pos 10)) (at (pos 8) (pos 10)) ∷ []) ∷ [] ∷ (segment (at (pos 11) (pos 0)) (at (pos 11) (pos 10)) ∷ []) ∷ (segment (at (pos 8) (pos 10)) (at (pos 11) (pos 10)) ∷ [])

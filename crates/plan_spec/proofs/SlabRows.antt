@@ -1,20 +1,19 @@
 -- Slabs and regions, tried on an empty room and on a bar in a room: each line is computed, or is a comparison of numbers.
-use Rattle.std.proofs.Common.{◌≡◌, ◌⊎◌, inl, inr, ℕ, ℤ, zero, suc, ◌<◌, pos, List, [], ◌∷◌, All, Any, AllPairs, refl, sym, subst, arith}
+use Rattle.std.proofs.Common.{◌≡◌, ◌⊎◌, inl, inr, ℕ, ℤ, zero, suc, ◌<◌, pos, List, [], ◌∷◌, All, Any, AllPairs, refl, sym, subst, arith, ◌<ℤ◌, get_or, ap}
 use Rattle.std.proofs.lemmas.Int.{ints}
 use Rattle.plan_exact.proofs.Laws.{linear}
-use Rattle.plan_spec.specs.Vector.{Vector, IsPoint, LtX, LtY, SameX, Same, spot}
+use Rattle.plan_spec.specs.Vector.{Vector, IsPoint, LtX, LtY, SameX, Same, spot, turn}
 use Rattle.plan_spec.specs.Segment.{Segment, segment}
-use Rattle.plan_spec.specs.Frame.{Frame, OnOrBeyond}
+use Rattle.plan_spec.specs.Frame.{OnOrBeyond}
 use Rattle.plan_spec.specs.Boundary.{IsClearOf}
 use Rattle.plan_spec.specs.Pieces.{Piece, piece, numbered}
-use Rattle.plan_spec.specs.Slabs.{piece_at, AreLines, Reaches, LiesOn, Below, IsSpan, AreSpans, IsMark, AreMarks, Slabs, size}
+use Rattle.plan_spec.specs.Slabs.{piece_at, AreLines, Reaches, LiesOn, Below, IsSpan, AreSpans, IsMark, AreMarks, Slabs, size, edge_of, rightward}
 use Rattle.plan_spec.specs.Regions.{cell, wall, spot_of, lots, none, keep, drop, AreRegions}
+use Rattle.plan_spec.specs.Polygon.{Inside, edges}
+use Rattle.plan_spec.proofs.Boundaries.{hexagon, quadrangle, room, parts}
 
 abbrev flat : ℤ → ℤ → ℤ → ℤ → Segment
 flat ax ay bx by = segment (spot ax ay) (spot bx by)
-
-abbrev room : Frame
-room = record { low = spot (pos 0) (pos 0); high = spot (pos 19) (pos 19) }
 
 abbrev floor : Segment
 floor = flat (pos 0) (pos 0) (pos 19) (pos 0)
@@ -198,10 +197,7 @@ one_mark_short h = by ((h.exact (spot (pos 0) (pos 19)) (omega (arith, ints)) re
 
 -- ---- a bar in the room: eleven pieces, two of them single points
 abbrev bar : List Piece
-bar = numbered 0 (
-    [] ∷ [] ∷ [] ∷ (flat (pos 9) (pos 10) (pos 9) (pos 10) ∷ []) ∷ (flat (pos 8) (pos 10) (pos 9) (pos 10) ∷ []) ∷ (flat (pos 8) (pos 0) (pos 8) (pos 10) ∷ []) ∷ (flat (pos 8) (pos 10) (pos 8) (pos 10) ∷ []) ∷ [] ∷ (flat (pos 11) (pos 0) (pos 11) (pos 10) ∷ [])
-    ∷ (flat (pos 8) (pos 10) (pos 11) (pos 10) ∷ []) ∷ (flat (pos 0) (pos 0) (pos 8) (pos 0) ∷ flat (pos 11) (pos 0) (pos 19) (pos 0) ∷ []) ∷ (flat (pos 19) (pos 0) (pos 19) (pos 19) ∷ []) ∷ (ceiling ∷ []) ∷ (flat (pos 0) (pos 0) (pos 0) (pos 19) ∷ []) ∷ []
-    )
+bar = numbered 0 parts
 
 -- between the lines 8 and 9 the hexagon's upper side, which comes first, gives the span at 10; from 9 to 11 the quadrangle's alone goes across
 abbrev bar_slabs : Slabs
@@ -214,6 +210,16 @@ bar_slabs = record {
 
 size_of_bar : size bar_slabs ≡ 20
 size_of_bar = refl
+
+-- on the quadrangle's upper side lies no span between the lines 8 and 9, since the piece of the hexagon's, number 1, comes first
+later_edge : ¬ (IsSpan (hexagon ∷ quadrangle ∷ []) room bar (spot (pos 8) (pos 0)) (spot (pos 9) (pos 0)) (flat (pos 8) (pos 10) (pos 11) (pos 10)))
+later_edge h = by h.number h.reaches h.is h.first
+  where
+    by : (n : ℕ) → Reaches (spot (pos 8) (pos 0)) (spot (pos 9) (pos 0)) (piece_at bar n) → flat (pos 8) (pos 10) (pos 11) (pos 10) ≡ rightward (edge_of (hexagon ∷ quadrangle ∷ []) room (piece_at bar n))
+        → ((j : ℕ) → j < n → Reaches (spot (pos 8) (pos 0)) (spot (pos 9) (pos 0)) (piece_at bar j) → ¬ (LiesOn (flat (pos 8) (pos 10) (pos 11) (pos 10)) (piece_at bar j))) → ⊥
+    by zero reach is first = omega (arith, ints, reach.0)
+    by (suc zero) reach is first = let e : pos 11 ≡ pos 9 = ap (λ s. s.b.x) is in omega (arith, ints, e)
+    by (suc (suc n)) reach is first = first 1 (omega arith) (omega (arith, ints), omega (arith, ints)) (refl, refl)
 
 -- four cells and six walls; the seven regions are the cells and the walls above the bar, 1 1, 2 0 and 3 1
 lots_of_bar : lots bar_slabs ≡ cell 0 0 ∷ wall 1 0 ∷ wall 1 1 ∷ cell 1 0 ∷ wall 2 0 ∷ cell 2 0 ∷ wall 3 0 ∷ wall 3 1 ∷ cell 3 0 ∷ wall 4 0 ∷ []
@@ -239,3 +245,50 @@ one_line_short h = by ((h.all 0 (piece 0 floor) (omega arith)).0)
     by (suc (suc zero), l, within, is, e) = let f = subst (SameX (spot (pos 9) (pos 10))) (sym is) e in omega (arith, ints, f)
     by (suc (suc (suc zero)), l, within, is, e) = let f = subst (SameX (spot (pos 9) (pos 10))) (sym is) e in omega (arith, ints, f)
     by (suc (suc (suc (suc k))), l, within, is, e) = omega arith
+
+-- ---- the seven regions of the bar
+-- strictly within the room, and strictly right of an edge of each sum
+free : (z : Vector) (j k : ℕ) → LtX room.low z → LtX z room.high → LtY room.low z → LtY z room.high → j < 6 → k < 4 → turn (get_or (edges hexagon) j floor).a (get_or (edges hexagon) j floor).b z <ℤ pos 0
+    → turn (get_or (edges quadrangle) k floor).a (get_or (edges quadrangle) k floor).b z <ℤ pos 0 → IsClearOf (hexagon ∷ quadrangle ∷ []) room z
+free z j k left right below above jh kh h q = record { in_room = inside; in_none = outside }
+  where
+    inside : OnOrBeyond room z → ⊥
+    inside (inl b) = omega (arith, linear, b, left)
+    inside (inr (inl b)) = omega (arith, linear, b, right)
+    inside (inr (inr (inl b))) = omega (arith, linear, b, below)
+    inside (inr (inr (inr b))) = omega (arith, linear, b, above)
+
+    outside : (n : ℕ) (d : List Vector) → n < 2 → ¬ (Inside (get_or (hexagon ∷ quadrangle ∷ []) n d) z)
+    outside zero d within held = omega (arith, linear, held j floor jh, h)
+    outside (suc zero) d within held = omega (arith, linear, held k floor kh, q)
+    outside (suc (suc n)) d within held = omega arith
+
+-- the point (8, 5) of the bar's left side is held by the hexagon, and (11, 5) of its right side by the quadrangle
+on_left_side : Inside hexagon (record { x = pos 16; y = pos 10; w = pos 2 })
+on_left_side zero d within = omega (arith, ints)
+on_left_side (suc zero) d within = omega (arith, ints)
+on_left_side (suc (suc zero)) d within = omega (arith, ints)
+on_left_side (suc (suc (suc zero))) d within = omega (arith, ints)
+on_left_side (suc (suc (suc (suc zero)))) d within = omega (arith, ints)
+on_left_side (suc (suc (suc (suc (suc zero))))) d within = omega (arith, ints)
+on_left_side (suc (suc (suc (suc (suc (suc k)))))) d within = absurd (omega arith)
+
+on_right_side : Inside quadrangle (record { x = pos 22; y = pos 10; w = pos 2 })
+on_right_side zero d within = omega (arith, ints)
+on_right_side (suc zero) d within = omega (arith, ints)
+on_right_side (suc (suc zero)) d within = omega (arith, ints)
+on_right_side (suc (suc (suc zero))) d within = omega (arith, ints)
+on_right_side (suc (suc (suc (suc k)))) d within = absurd (omega arith)
+
+seven_regions : AreRegions (hexagon ∷ quadrangle ∷ []) room bar_slabs (cell 0 0 ∷ wall 1 1 ∷ cell 1 0 ∷ wall 2 0 ∷ cell 2 0 ∷ wall 3 1 ∷ cell 3 0 ∷ [])
+seven_regions =
+    keep (cell 0 0) _ _ (free _ 5 0 (omega (arith, ints)) (omega (arith, ints)) (omega (arith, ints)) (omega (arith, ints)) (omega arith) (omega arith) (omega (arith, ints)) (omega (arith, ints)))
+    (drop (wall 1 0) _ _ (λ c. c.in_none 0 hexagon (omega arith) on_left_side)
+    (keep (wall 1 1) _ _ (free _ 4 3 (omega (arith, ints)) (omega (arith, ints)) (omega (arith, ints)) (omega (arith, ints)) (omega arith) (omega arith) (omega (arith, ints)) (omega (arith, ints)))
+    (keep (cell 1 0) _ _ (free _ 4 3 (omega (arith, ints)) (omega (arith, ints)) (omega (arith, ints)) (omega (arith, ints)) (omega arith) (omega arith) (omega (arith, ints)) (omega (arith, ints)))
+    (keep (wall 2 0) _ _ (free _ 4 3 (omega (arith, ints)) (omega (arith, ints)) (omega (arith, ints)) (omega (arith, ints)) (omega arith) (omega arith) (omega (arith, ints)) (omega (arith, ints)))
+    (keep (cell 2 0) _ _ (free _ 4 3 (omega (arith, ints)) (omega (arith, ints)) (omega (arith, ints)) (omega (arith, ints)) (omega arith) (omega arith) (omega (arith, ints)) (omega (arith, ints)))
+    (drop (wall 3 0) _ _ (λ c. c.in_none 1 hexagon (omega arith) on_right_side)
+    (keep (wall 3 1) _ _ (free _ 4 3 (omega (arith, ints)) (omega (arith, ints)) (omega (arith, ints)) (omega (arith, ints)) (omega arith) (omega arith) (omega (arith, ints)) (omega (arith, ints)))
+    (keep (cell 3 0) _ _ (free _ 2 2 (omega (arith, ints)) (omega (arith, ints)) (omega (arith, ints)) (omega (arith, ints)) (omega arith) (omega arith) (omega (arith, ints)) (omega (arith, ints)))
+    (drop (wall 4 0) [] [] (λ c. c.in_room (inr (inl (omega (arith, ints))))) none)))))))))
