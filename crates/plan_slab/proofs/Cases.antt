@@ -6,7 +6,8 @@ use Rattle.plan_spec.specs.Segment.{Segment, segment}
 use Rattle.plan_spec.specs.Regions.{cell, wall}
 use Rattle.plan_grid.specs.declared.frame.Frame.{Frame}
 use Rattle.plan_slab.specs.LotOrder.{Earlier}
-use Rattle.plan_slab.specs.Meets.{meets, MeetsMark, IsSloped}
+use Rattle.plan_spec.specs.Neighbours.{meets}
+use Rattle.plan_slab.specs.Meets.{MeetsMark, IsSloped}
 use Rattle.plan_slab.specs.Near.{HasX, IsWithinRoom}
 
 -- ---- a rising span and three marks of the line x = 2

@@ -11,7 +11,8 @@ use Rattle.plan_spec.specs.Regions.{Lot, wall, Holds, IsLot, spot_of, AreRegions
 use Rattle.plan_plane.proofs.Boundary.Floor.{IsFloor}
 use Rattle.plan_slab.specs.LotOrder.{Earlier}
 use Rattle.plan_slab.specs.Levels.{Lower, Level, strand}
-use Rattle.plan_slab.specs.Meets.{meets, MeetsMark, IsSloped}
+use Rattle.plan_spec.specs.Neighbours.{meets}
+use Rattle.plan_slab.specs.Meets.{MeetsMark, IsSloped}
 
 -- the slabs of the pieces that convex sums and a room leave
 pub record AreSlabsOf (sums : List (List Vector)) (room : Frame) (pieces : List Piece) (σ : Slabs) : Type 0 where

@@ -3,3 +3,4 @@ mod Boundaries
 mod Polygons
 mod Placements
 mod SlabRows
+mod WalkRows

@@ -12,13 +12,13 @@ use Rattle.plan_spec.specs.Regions.{cell, wall, spot_of, lots, none, keep, drop,
 use Rattle.plan_spec.specs.Polygon.{Inside, edges}
 use Rattle.plan_spec.proofs.Boundaries.{hexagon, quadrangle, room, parts}
 
-abbrev flat : ℤ → ℤ → ℤ → ℤ → Segment
+abbrev pub flat : ℤ → ℤ → ℤ → ℤ → Segment
 flat ax ay bx by = segment (spot ax ay) (spot bx by)
 
-abbrev floor : Segment
+abbrev pub floor : Segment
 floor = flat (pos 0) (pos 0) (pos 19) (pos 0)
 
-abbrev ceiling : Segment
+abbrev pub ceiling : Segment
 ceiling = flat (pos 0) (pos 19) (pos 19) (pos 19)
 
 -- ---- the empty room: its four sides are pieces
@@ -200,7 +200,7 @@ abbrev bar : List Piece
 bar = numbered 0 parts
 
 -- between the lines 8 and 9 the hexagon's upper side, which comes first, gives the span at 10; from 9 to 11 the quadrangle's alone goes across
-abbrev bar_slabs : Slabs
+abbrev pub bar_slabs : Slabs
 bar_slabs = record {
   lines = spot (pos 0) (pos 0) ∷ spot (pos 8) (pos 0) ∷ spot (pos 9) (pos 0) ∷ spot (pos 11) (pos 0) ∷ spot (pos 19) (pos 0) ∷ [];
   spans = (floor ∷ ceiling ∷ []) ∷ (flat (pos 8) (pos 10) (pos 9) (pos 10) ∷ ceiling ∷ []) ∷ (flat (pos 8) (pos 10) (pos 11) (pos 10) ∷ ceiling ∷ []) ∷ (floor ∷ ceiling ∷ []) ∷ [];

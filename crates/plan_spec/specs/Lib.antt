@@ -14,3 +14,8 @@ pub mod Boundary
 pub mod Pieces
 pub mod Slabs
 pub mod Regions
+pub mod Neighbours
+pub mod Walks
+pub mod Paths
+pub mod Rings
+pub mod Answers

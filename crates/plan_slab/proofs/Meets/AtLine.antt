@@ -12,7 +12,8 @@ use Rattle.plan_plane.proofs.Rising.ByCoordinate.{order_x}
 use Rattle.plan_plane.proofs.Segment.ByX.{leX_trans}
 use Rattle.plan_plane.proofs.Segment.Same.{turn_same}
 use Rattle.plan_slab.specs.Levels.{run}
-use Rattle.plan_slab.specs.Meets.{meets, MeetsMark}
+use Rattle.plan_spec.specs.Neighbours.{meets}
+use Rattle.plan_slab.specs.Meets.{MeetsMark}
 use Rattle.plan_slab.proofs.ByNumber.{at_number}
 use Rattle.plan_slab.proofs.Order.Across.{IsSlab}
 use Rattle.plan_slab.proofs.Order.Feet.{foot_point, foot_same_x, foot_in_line}

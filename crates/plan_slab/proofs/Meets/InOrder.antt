@@ -17,7 +17,8 @@ use Rattle.plan_spec.specs.Slabs.{nowhere, nothing, InSlab, Below, Slabs, line_a
 use Rattle.plan_spec.specs.Regions.{foot, mediant}
 use Rattle.plan_plane.proofs.Segment.ByX.{leX_trans}
 use Rattle.plan_slab.specs.Levels.{run}
-use Rattle.plan_slab.specs.Meets.{meets, MeetsMark}
+use Rattle.plan_spec.specs.Neighbours.{meets}
+use Rattle.plan_slab.specs.Meets.{MeetsMark}
 use Rattle.plan_slab.proofs.Meets.AtLine.{foot_mark, marks_below, meets_mark}
 use Rattle.plan_slab.proofs.Order.Across.{IsSlab}
 use Rattle.plan_slab.proofs.Order.Feet.{foot_point, foot_in_line, mediant_point, mediant_inside}
