@@ -1,4 +1,5 @@
 -- What holds near z in the direction of d: at n z + d for all large n. A covector that is positive at z, or 0 there and positive at d, is positive near z; and the sum of two bounds serves two facts.
+-- Nothing cites `near_point` and `near_nonneg` yet: they are stock for the cells beside a wall.
 use Rattle.std.proofs.Common.{◌≡◌, ◌⊎◌, inl, inr, ℤ, pos, ◌+ℤ◌, ◌-ℤ◌, ◌*ℤ◌, ◌≤ℤ◌, ◌<ℤ◌, List, [], ◌∷◌, All, arith}
 use Rattle.std.proofs.lemmas.List.Elements.{All-head, All-tail, All-nil, All-cons}
 use Rattle.plan_exact.specs.Expr.{con, ◌⊕◌, ◌⊖◌, ◌⊗◌}

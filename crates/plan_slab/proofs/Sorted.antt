@@ -5,3 +5,4 @@ pub mod Marks
 pub mod Size
 pub mod Exist
 pub mod Grown
+pub mod FirstOfEach

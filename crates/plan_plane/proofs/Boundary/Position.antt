@@ -1,4 +1,5 @@
 -- Whether a point is held, uncovered or clear depends on its position alone, since the sign of each covector does.
+-- Nothing cites `clear_same` yet: it is stock for routes.
 use Rattle.std.proofs.Common.{◌≡◌, inl, inr, pos, List, get_or, arith}
 use Rattle.plan_exact.specs.Vectors.{cross}
 use Rattle.plan_exact.proofs.Laws.{linear}
