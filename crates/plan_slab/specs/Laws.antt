@@ -13,6 +13,7 @@ use Rattle.plan_slab.specs.LotOrder.{Earlier}
 use Rattle.plan_slab.specs.Levels.{Lower, Level, strand}
 use Rattle.plan_spec.specs.Neighbours.{meets}
 use Rattle.plan_slab.specs.Meets.{MeetsMark, IsSloped}
+use Rattle.plan_slab.specs.Decomposition.{IsDecomposition}
 
 -- the slabs of the pieces that convex sums and a room leave
 pub record AreSlabsOf (sums : List (List Vector)) (room : Frame) (pieces : List Piece) (σ : Slabs) : Type 0 where
@@ -87,3 +88,7 @@ SlabsExist = (sums : List (List Vector)) (room : Frame) (pieces : List Piece) �
 -- all slabs of the same pieces have one size
 abbrev pub OneSize : Type 0
 OneSize = (sums : List (List Vector)) (room : Frame) (pieces : List Piece) (σ τ : Slabs) → AreSlabsOf sums room pieces σ → AreSlabsOf sums room pieces τ → size σ ≡ size τ
+
+-- slabs and their regions have, by number, all that walks and rings take of them
+abbrev pub Decompose : Type 0
+Decompose = (sums : List (List Vector)) (room : Frame) (pieces : List Piece) (σ : Slabs) (found : List Lot) → AreSlabsOf sums room pieces σ → AreRegions sums room σ found → IsDecomposition sums room σ found

@@ -2,5 +2,6 @@ pub mod Levels
 pub mod FirstSlabs
 pub mod Laws
 pub mod Meets
+pub mod Decomposition
 pub mod LotOrder
 pub mod Near

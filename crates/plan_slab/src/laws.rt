@@ -1,6 +1,6 @@
 //! The laws of slabs and regions. The functions do nothing: their contracts are the laws.
 
-ghost use Rattle.plan_slab.specs.Laws.{OneOrder, SlabsExist, OneSize, OneKind, ExactlyOne, OthersTouch, InOrder, InnerWalls, ProperRoom, SpansMeet, SpansTight, MarkRule};
+ghost use Rattle.plan_slab.specs.Laws.{OneOrder, SlabsExist, OneSize, OneKind, ExactlyOne, OthersTouch, InOrder, InnerWalls, ProperRoom, SpansMeet, SpansTight, MarkRule, Decompose};
 
 /// Of two pieces that go across a slab the one is below the other throughout, or they lie on one line, and their heights
 /// at any one point of the slab tell which.
@@ -61,4 +61,9 @@ pub fn spans_tight()
 /// What no sum covers of an edge that is not upright is a mark where it meets a line.
 pub fn mark_rule()
     ensures { MarkRule }
+{}
+
+/// Slabs and their regions have, by number, all that walks and rings take of them.
+pub fn decompose()
+    ensures { Decompose }
 {}
