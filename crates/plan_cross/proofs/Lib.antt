@@ -1,3 +1,4 @@
+pub mod Equal
 mod OddEnds
 mod Searched
 mod Unclosed

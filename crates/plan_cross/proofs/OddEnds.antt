@@ -1,5 +1,5 @@
 -- The points that are left of the sorted ends when pairs are taken out are those that are ends an odd number of times: a pair changes no point's number from odd to even, and in a list that rises no point stands twice.
-use Rattle.std.proofs.Common.{◌≡◌, ℕ, zero, suc, ◌+◌, ◌<◌, ◌≤◌, ◌⊎◌, inl, inr, Bool, true, false, not, cond, List, [], ◌∷◌, length, get_or, All, Any, sum_by, ◌*ℤ◌, ◌↔◌, IsTrue, refl, sym, ◌∙◌, ap, ap₂, subst, arith, if◌then◌else◌}
+use Rattle.std.proofs.Common.{◌≡◌, ℕ, zero, suc, ◌+◌, ◌<◌, ◌≤◌, ◌⊎◌, inl, inr, Bool, true, false, not, cond, List, [], ◌∷◌, length, get_or, All, Any, sum_by, ◌↔◌, IsTrue, refl, sym, ◌∙◌, ap, ap₂, subst, arith, if◌then◌else◌}
 use Rattle.std.specs.Ordering.{is_lt, is_eq, ordering_reverse}
 use Rattle.std.specs.declared.cmp.Ordering.{Ordering}
 use Rattle.std.specs.declared.cmp.Ordering.TheVariants.{Less, Equal, Greater}
@@ -10,18 +10,15 @@ use Rattle.std.proofs.lemmas.List.Elements.{All-nil, All-cons, All-head, All-tai
 use Rattle.std.proofs.lemmas.List.Kept.{AllPairs-cons}
 use Rattle.std.proofs.lemmas.List.Sums.{sum_by-cons}
 use Rattle.std.proofs.lemmas.List.Sorted.{All-permutation, sum_by-IsPermutation, sorted_far, ranks_by}
-use Rattle.plan_exact.specs.Sign.{Order, is_less, is_equal, is_greater}
-use Rattle.plan_exact.proofs.Laws.{linear}
-use Rattle.plan_exact.proofs.Signs.{order_of}
 use Rattle.plan_spec.specs.Vector.{Vector, IsPoint, Same, same}
 use Rattle.plan_spec.specs.Segment.{Segment, HasPoints}
 use Rattle.plan_spec.specs.Parity.{xor}
 use Rattle.plan_spec.specs.Chain.{odd_end}
 use Rattle.plan_plane.proofs.Lists.{any_here, any_there, any_cases, any_none}
 use Rattle.plan_plane.proofs.Segment.Same.{same_true, same_from, same_comm}
-use Rattle.plan_grid.specs.Order.{IsPointOrder}
-use Rattle.plan_grid.specs.PointOrder.{point_cmp, point_eq, point_cmp_total, point_cmp_from_order}
+use Rattle.plan_grid.specs.PointOrder.{point_cmp, point_eq, point_cmp_total}
 use Rattle.plan_cross.specs.Ends.{ends, unpaired, Rises, AreOddEnds}
+use Rattle.plan_cross.proofs.Equal.{equal_is_same}
 use Rattle.plan_cross.proofs.ParityLaw.Closed.{odd_end_is}
 use Rattle.plan_cross.proofs.ParityLaw.Position.{same_same}
 use Rattle.plan_cross.proofs.ParityLaw.Tally.{odd_in}
@@ -53,23 +50,6 @@ odd_in_is (p ∷ ps) z = ap (xor (same p z)) (odd_in_is ps z) ∙ sym (ap is_odd
 
 odd_in_permutation : (ps qs : List Vector) (z : Vector) → IsPermutation ps qs → odd_in qs z ≡ odd_in ps z
 odd_in_permutation ps qs z h = odd_in_is qs z ∙ ap is_odd (sum_by-IsPermutation (times_at z) ps qs h) ∙ sym (odd_in_is ps z)
-
--- ---- points that are equal in the order are at one position
-pub equal_is_same : (p q : Vector) → IsPoint p → IsPoint q → point_eq p q ≡ same p q
-equal_is_same p q hp hq = by (order_of (p.x *ℤ q.w) (q.x *ℤ p.w)) (order_of (p.y *ℤ q.w) (q.y *ℤ p.w))
-  where
-    told : (o : Ordering) → IsPointOrder o p q → is_eq o ≡ same p q → point_eq p q ≡ same p q
-    told o h e = ap is_eq (sym (point_cmp_from_order p q (omega (arith, linear)) (omega (arith, linear)) o h)) ∙ e
-
-    apart : ¬ (Same p q) → false ≡ same p q
-    apart n = sym (false_from_ne_true (same p q) (λ t. n (same_true p q t)))
-
-    by : Order (p.x *ℤ q.w) (q.x *ℤ p.w) → Order (p.y *ℤ q.w) (q.y *ℤ p.w) → point_eq p q ≡ same p q
-    by (is_less x) y = told Less (inl x) (apart (λ s. omega (arith, linear, s.0)))
-    by (is_greater x) y = told Greater (inl x) (apart (λ s. omega (arith, linear, s.0)))
-    by (is_equal x) (is_less y) = told Less (inr (x, y)) (apart (λ s. omega (arith, linear, s.1)))
-    by (is_equal x) (is_greater y) = told Greater (inr (sym x, y)) (apart (λ s. omega (arith, linear, s.1)))
-    by (is_equal x) (is_equal y) = told Equal (x, y) (sym (same_from p q (x, y)))
 
 -- what is asked of either answers alike
 alike : (a b z : Vector) → IsPoint a → IsPoint b → IsPoint z → IsTrue (point_eq a b) → same a z ≡ same b z

@@ -11,7 +11,7 @@ use Rattle.plan_spec.specs.Vector.{Vector, IsPoint, Same}
 use Rattle.plan_plane.proofs.Segment.Same.{same_true, same_from}
 use Rattle.plan_grid.specs.PointOrder.{point_cmp, point_cmp_total}
 use Rattle.plan_cross.specs.Ends.{Rises}
-use Rattle.plan_cross.proofs.OddEnds.{equal_is_same}
+use Rattle.plan_cross.proofs.Equal.{equal_is_same}
 
 sorted : (ps : List Vector) → Rises ps → IsSorted point_cmp ps
 sorted ps r k d low high = ap is_lt (point_cmp_total.antisymm (get_or ps (k + 1) d) (get_or ps k d) ∙ ap ordering_reverse (r k (k + 1) d (omega arith) high))

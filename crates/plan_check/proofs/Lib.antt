@@ -1,0 +1,11 @@
+mod Boxed
+mod Rounding
+mod WholeBoxes
+mod InBoxes
+mod Each
+mod Frames
+mod ClearPaths
+mod Legs
+mod PathFaults
+mod ChainFaults
+mod Exclusion

@@ -1,0 +1,5 @@
+pub mod Boxes
+pub mod Touching
+pub mod Fault
+pub mod Verdict
+pub mod Laws
