@@ -13,4 +13,5 @@ pub mod Kept
 pub mod Spots
 pub mod ExactlyOne
 pub mod Numbered
+pub mod Sides
 pub mod NearSums

@@ -3,5 +3,6 @@ pub mod FirstSlabs
 pub mod Laws
 pub mod Meets
 pub mod Decomposition
+pub mod Sides
 pub mod LotOrder
 pub mod Near
