@@ -1,0 +1,15 @@
+pub mod Sums
+pub mod Ends
+pub mod Kept
+pub mod Places
+pub mod NearOrder
+pub mod Walls
+pub mod Closed
+pub mod LowerSides
+pub mod Sides
+pub mod Odd
+pub mod Entering
+pub mod Exposed
+pub mod SideTight
+pub mod Tight
+pub mod Component
