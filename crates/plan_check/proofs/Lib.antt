@@ -7,5 +7,5 @@ mod Frames
 mod ClearPaths
 mod Legs
 mod PathFaults
-mod ChainFaults
+pub mod ChainFaults
 mod Exclusion

@@ -47,7 +47,7 @@ module _ (σ : Slabs) (found : List Lot) where
       let q = and_parts _ _ p.1 in
       ends_in k n (ltb-true k (length found) q.0) ks rest
 
-  joined_in : (m n : ℕ) → m < length found → AreJoined (AreNeighbours σ found) m n → n < length found
+  pub joined_in : (m n : ℕ) → m < length found → AreJoined (AreNeighbours σ found) m n → n < length found
   joined_in m n hm ([], w) = absurd w
   joined_in m n hm (k ∷ ks, (e, leads)) = ends_in k n (subst (λ k. k < length found) (sym e) hm) ks leads
 

@@ -13,3 +13,5 @@ pub mod Exposed
 pub mod SideTight
 pub mod Tight
 pub mod Component
+pub mod Reach
+pub mod OneKind
