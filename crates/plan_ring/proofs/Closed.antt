@@ -11,7 +11,7 @@ use Rattle.plan_spec.specs.Regions.{Lot, cell, wall, region_at}
 use Rattle.plan_slab.specs.Decomposition.{IsDecomposition}
 use Rattle.plan_spec.specs.Neighbours.{beside}
 use Rattle.plan_spec.specs.Rings.{kept, ring}
-use Rattle.plan_ring.proofs.Places.{IsLineOf, meets_at, meets_rise}
+use Rattle.plan_map.proofs.Path.Places.{IsLineOf, meets_at, meets_rise}
 use Rattle.plan_ring.proofs.Sums.{xor_below, xor_alike, xor_both, xor_none, xor_exchanged, xor_factor, xor_single, range_in}
 use Rattle.plan_ring.proofs.Ends.{has, odd_end_flat, over_rising}
 use Rattle.plan_ring.proofs.Kept.{open_ends, side_of, beside_is, kept_ends}
@@ -73,7 +73,7 @@ module _ {sums : List (List Vector)} {room : Frame} {σ : Slabs} {found : List L
           let s = in_side σ f one k j (region_at found m) e in
           let here = d.once.cells m k s.at l s.is_cell in
           let there = d.once.cells r.number k r.at r.is_region r.is_cell in
-          let same = one_range (meets_at σ k (f k)) (length (spans_of σ k)) (λ i less. meets_rise d k (f k) i (line k) less) s.at r.at j here.1 there.1 s.from_below s.to_above r.from_below r.to_above in
+          let same = one_range (meets_at σ k (f k)) (length (spans_of σ k)) (λ i less. meets_rise d.order k (f k) i (line k) less) s.at r.at j here.1 there.1 s.from_below s.to_above r.from_below r.to_above in
           apart (d.once.once m r.number l r.is_region (s.is_cell ∙ ap (cell k) same ∙ sym r.is_cell)))
 
   two_cells : (n h j : ℕ) → n < length found → region_at found n ≡ wall h j → xor_below (length found) (λ c. beside σ (wall h j) (region_at found c)) ≡ false
@@ -100,7 +100,7 @@ module _ {sums : List (List Vector)} {room : Frame} {σ : Slabs} {found : List L
       by (wall h j) e = subst (Opens z) (sym e) (sym (xor_none (length found) _ (λ n m. ap (λ x. x && open_ends σ z (region_at found n)) (beside_no_wall (region_at found n) h j))))
       by (cell k i) e =
           let at = d.once.cells c k i l e in
-          subst (Opens z) (sym e) (kept_ends σ found z d.once k i (meets_rise d k k i (inl refl) at.1) (meets_rise d k (suc k) i (inr refl) at.1))
+          subst (Opens z) (sym e) (kept_ends σ found z d.once k i (meets_rise d.order k k i (inl refl) at.1) (meets_rise d.order k (suc k) i (inr refl) at.1))
 
   pub ring_closed : (ns : List ℕ) → IsWhole σ found ns → IsClosed (ring σ found ns)
   ring_closed ns whole z hz =

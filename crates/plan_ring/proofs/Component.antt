@@ -30,6 +30,12 @@ one_more next m n c ([], w) step = absurd w
 one_more next m n c (k ∷ ks, (e, leads)) step = (k ∷ (ks ++ c ∷ []), (e, longer next n c k ks leads step))
 
 module _ (σ : Slabs) (found : List Lot) where
+  pub are_regions : (m n : ℕ) → AreNeighbours σ found m n → (m < length found) × (n < length found)
+  are_regions m n e =
+      let p = and_parts _ _ e in
+      let q = and_parts _ _ p.1 in
+      (ltb-true m (length found) p.0, ltb-true n (length found) q.0)
+
   neighbours_from : (m n : ℕ) → m < length found → n < length found → beside σ (region_at found m) (region_at found n) ≡ true → AreNeighbours σ found m n
   neighbours_from m n hm hn e = and_from _ _ (lt-ltb m (length found) hm) (and_from _ _ (lt-ltb n (length found) hn) (or_left _ _ e))
 
@@ -42,10 +48,7 @@ module _ (σ : Slabs) (found : List Lot) where
   -- a walk ends in a region
   ends_in : (m n : ℕ) → m < length found → (ks : List ℕ) → Leads (AreNeighbours σ found) n m ks → n < length found
   ends_in m n hm [] e = subst (λ n. n < length found) e hm
-  ends_in m n hm (k ∷ ks) (go, rest) =
-      let p = and_parts _ _ go in
-      let q = and_parts _ _ p.1 in
-      ends_in k n (ltb-true k (length found) q.0) ks rest
+  ends_in m n hm (k ∷ ks) (go, rest) = ends_in k n (are_regions m k go).1 ks rest
 
   pub joined_in : (m n : ℕ) → m < length found → AreJoined (AreNeighbours σ found) m n → n < length found
   joined_in m n hm ([], w) = absurd w

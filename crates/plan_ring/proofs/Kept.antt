@@ -1,13 +1,14 @@
 -- What a cell leaves open are its free walls: an end is odd in what is kept of a cell exactly where it is odd among the cell's free walls.
 use Rattle.std.proofs.Common.{◌≡◌, ◌⊎◌, inl, inr, ℕ, zero, suc, ◌+◌, ◌-◌, ◌≤◌, Bool, true, false, ◌&&◌, ◌||◌, List, [], ◌∷◌, length, eqb, refl, sym, ap, ap₂, ◌∙◌, arith, if◌then◌else◌}
-use Rattle.std.proofs.lemmas.Bool.{ne_eqb, eq-eqb, eqb-true, cases_eq, cases_Bool, and_parts, false_from_ne_true}
+use Rattle.std.proofs.lemmas.Bool.{ne_eqb, cases_eq, cases_Bool, false_from_ne_true}
 use Rattle.plan_spec.specs.Vector.{Vector, same}
 use Rattle.plan_spec.specs.Parity.{xor}
 use Rattle.plan_spec.specs.Chain.{odd_end}
 use Rattle.plan_spec.specs.Slabs.{Slabs, mark_at}
 use Rattle.plan_spec.specs.Regions.{Lot, cell, wall, region_at}
 use Rattle.plan_slab.specs.Decomposition.{AreOnce}
-use Rattle.plan_ring.proofs.Places.{meets_at}
+use Rattle.plan_slab.proofs.Decomposition.{is_wall_is, wall_is_wall}
+use Rattle.plan_map.proofs.Path.Places.{meets_at}
 use Rattle.plan_spec.specs.Neighbours.{in_range, beside}
 use Rattle.plan_spec.specs.Rings.{is_wall, has_wall, part, side, closed_parts, left_parts, right_parts, kept}
 use Rattle.plan_ring.proofs.Sums.{xor_below, xor_alike, xor_both, xor_telescope, xor_none, xor_exchanged, xor_factor, xor_factor_right, xor_single, xor_and, one_of_range}
@@ -78,21 +79,14 @@ closed_odd σ found z h a n =
     each (suc n) = odd_end_append (closed_parts σ found h a n) _ z ∙ ap₂ xor (each n) (one (a + n) (has_wall found h (a + n)))
 
 -- ---- a wall is one region where it is free, and else none
-is_wall_from : (h j : ℕ) (x : Lot) → is_wall h j x ≡ true → x ≡ wall h j
-is_wall_from h j (cell n i) e = absurd (cc)
-is_wall_from h j (wall n i) e = let p = and_parts (eqb n h) (eqb i j) e in ap₂ wall (eqb-true n h p.0) (eqb-true i j p.1)
-
-is_wall_true : (h j : ℕ) (x : Lot) → x ≡ wall h j → is_wall h j x ≡ true
-is_wall_true h j x e = ap (is_wall h j) e ∙ ap₂ (λ x y. x && y) (eq-eqb h h refl) (eq-eqb j j refl)
-
 free_is : (σ : Slabs) (found : List Lot) → AreOnce σ found → (h j : ℕ) → xor_below (length found) (λ n. is_wall h j (region_at found n)) ≡ has_wall found h j
 free_is σ found once h j = by (cases_Bool (has_wall found h j))
   where
     by : (has_wall found h j ≡ true) ⊎ (has_wall found h j ≡ false) → xor_below (length found) (λ n. is_wall h j (region_at found n)) ≡ has_wall found h j
     by (inl f) =
         let n = once.listed h j f in
-        xor_single (length found) n.0 _ n.1 (λ m l d. false_from_ne_true _ (λ e. d (once.once m n.0 l n.1 (is_wall_from h j (region_at found m) e ∙ sym n.2)))) ∙ is_wall_true h j (region_at found n.0) n.2 ∙ sym f
-    by (inr f) = xor_none (length found) _ (λ m l. false_from_ne_true _ (λ e. let t = once.free_walls m h j l (is_wall_from h j (region_at found m) e) in absurd (cc))) ∙ sym f
+        xor_single (length found) n.0 _ n.1 (λ m l d. false_from_ne_true _ (λ e. d (once.once m n.0 l n.1 (is_wall_is h j (region_at found m) e ∙ sym n.2)))) ∙ wall_is_wall h j (region_at found n.0) n.2 ∙ sym f
+    by (inr f) = xor_none (length found) _ (λ m l. false_from_ne_true _ (λ e. let t = once.free_walls m h j l (is_wall_is h j (region_at found m) e) in absurd (cc))) ∙ sym f
 
 -- ---- the regions that are walls between two marks of a line, as those marks
 among : (h a n : ℕ) (x : Lot) → is_within h a (a + n) x ≡ xor_below n (λ j. is_wall h (a + j) x)
@@ -103,7 +97,7 @@ same_open : (σ : Slabs) (z : Vector) (h j : ℕ) (x : Lot) → (is_wall h j x &
 same_open σ z h j x = by (cases_Bool (is_wall h j x))
   where
     by : (is_wall h j x ≡ true) ⊎ (is_wall h j x ≡ false) → (is_wall h j x && open_ends σ z x) ≡ (is_wall h j x && open_ends σ z (wall h j))
-    by (inl t) = ap (λ y. is_wall h j x && open_ends σ z y) (is_wall_from h j x t)
+    by (inl t) = ap (λ y. is_wall h j x && open_ends σ z y) (is_wall_is h j x t)
     by (inr f) = ap (λ b. b && open_ends σ z x) f ∙ sym (ap (λ b. b && open_ends σ z (wall h j)) f)
 
 walls_between : (σ : Slabs) (found : List Lot) (z : Vector) → AreOnce σ found → (h a n : ℕ) → xor_below (length found) (λ m. is_within h a (a + n) (region_at found m) && open_ends σ z (region_at found m)) ≡ xor_below n (λ j. has_wall found h (a + j) && open_ends σ z (wall h (a + j)))

@@ -1,7 +1,6 @@
 pub mod Sums
 pub mod Ends
 pub mod Kept
-pub mod Places
 pub mod NearOrder
 pub mod Walls
 pub mod Closed

@@ -12,7 +12,7 @@ use Rattle.plan_spec.specs.Vector.{Vector, IsPoint, SameX, LeX, LtX, LeY, turn}
 use Rattle.plan_spec.specs.Segment.{segment}
 use Rattle.plan_plane.proofs.Rising.ByCoordinate.{order_x}
 use Rattle.plan_plane.proofs.Segment.Line.{right, formal_right}
-use Rattle.plan_ring.proofs.Places.{not_above_line}
+use Rattle.plan_map.proofs.Path.Places.{not_above_line}
 
 -- c and d have the x of a and b, and are not below them: what is strictly below a b is strictly below c d
 pub lower_over : (a b c d z : Vector) → IsPoint a → IsPoint b → IsPoint c → IsPoint d → SameX a c → SameX b d → LtX a b → LeY a c → LeY b d → LeX a z → LeX z b → turn a b z <ℤ pos 0 → turn c d z <ℤ pos 0

@@ -16,10 +16,10 @@ use Rattle.plan_spec.specs.Neighbours.{beside}
 use Rattle.plan_spec.specs.Rings.{side, left_parts, right_parts, kept, ring}
 use Rattle.plan_ring.proofs.Closed.{IsWhole}
 use Rattle.plan_ring.proofs.Ends.{has, parity_append, parity_flat, over_rising}
-use Rattle.plan_ring.proofs.Places.{Fits, fits, meets_at, met, meets_rise, above_from, below_from}
+use Rattle.plan_map.proofs.Path.Places.{meets_at, met, meets_rise, above_from, below_from}
 use Rattle.plan_ring.proofs.Sides.{IsInSlab, IsBetween, closed_even, other_slab, own_slab}
 use Rattle.plan_ring.proofs.Sums.{xor_alike, xor_single, range_in}
-use Rattle.plan_ring.proofs.Walls.{walled}
+use Rattle.plan_ring.proofs.Walls.{Fits, fits, walled}
 
 abbrev is_cell : ℕ → ℕ → Lot → Bool
 is_cell k i (cell n j) = eqb n k && eqb j i
@@ -53,10 +53,10 @@ module _ {sums : List (List Vector)} {room : Frame} {σ : Slabs} {found : List L
         hj = is.1
 
         right_none : parity (right_parts σ found n j) z ≡ false
-        right_none = closed_even d z s.point (suc n) (meets_at σ n (suc n) j) (meets_at σ n (suc n) (suc j) - meets_at σ n (suc n) j) hn (omega (arith, meets_rise d n (suc n) j (inr refl) hj, met d n (suc n) (suc j) hn (inr refl) hj))
+        right_none = closed_even d z s.point (suc n) (meets_at σ n (suc n) j) (meets_at σ n (suc n) (suc j) - meets_at σ n (suc n) j) hn (omega (arith, meets_rise d.order n (suc n) j (inr refl) hj, met d.placed n (suc n) (suc j) hn (inr refl) hj))
 
         left_none : parity (left_parts σ found n j) z ≡ false
-        left_none = closed_even d z s.point n (meets_at σ n n j) (meets_at σ n n (suc j) - meets_at σ n n j) (omega (arith, hn)) (omega (arith, meets_rise d n n j (inl refl) hj, met d n n (suc j) hn (inl refl) hj))
+        left_none = closed_even d z s.point n (meets_at σ n n j) (meets_at σ n n (suc j) - meets_at σ n n j) (omega (arith, hn)) (omega (arith, meets_rise d.order n n j (inl refl) hj, met d.placed n n (suc j) hn (inl refl) hj))
 
         by : (n ≡ k) ⊎ (¬ (n ≡ k)) → xor (over (side σ n j) z) (over (side σ n (suc j)) z) ≡ (eqb n k && eqb j i)
         by (inr apart) = ap₂ xor (other_slab d k z s n j apart hn (omega (arith, hj))) (other_slab d k z s n (suc j) apart hn hj) ∙ sym (ap (λ x. x && eqb j i) (ne_eqb n k apart))
@@ -101,6 +101,6 @@ module _ {sums : List (List Vector)} {room : Frame} {σ : Slabs} {found : List L
           let lz = within.at in
           let zl : LeX z (line_at σ h) = omega (arith, linear) in
           let s : IsInSlab σ h z = record { point = hz; is_slab = at.0; after = omega (arith, linear); before = leX_ltX z (line_at σ h) (line_at σ (suc h)) hz (d.placed.line_points h hh) (d.placed.line_points (suc h) hs) zl (d.placed.lines_rise h (suc h) (omega arith) hs) } in
-          let b : IsBetween σ h c.at z = record { is_cell = at.1; above = le_of_lt (above_from d h h c.at at.0 (inl refl) (omega (arith, at.1)) z hz lz j is.1 within.above c.from_below); below = below_from d h h (suc c.at) at.0 (inl refl) at.1 z hz lz j is.1 within.below c.to_above } in
+          let b : IsBetween σ h c.at z = record { is_cell = at.1; above = le_of_lt (above_from d.placed h h c.at at.0 (inl refl) (omega (arith, at.1)) z hz lz j is.1 within.above c.from_below); below = below_from d.placed h h (suc c.at) at.0 (inl refl) at.1 z hz lz j is.1 within.below c.to_above } in
           let one : beside σ (region_at found r) (region_at found c.number) ≡ true = ap₂ (beside σ) e c.is_cell ∙ or_left _ _ (ap₂ (λ x y. x && y) (eq-eqb h h refl) (range_in (meets_at σ h h c.at) (meets_at σ h h (suc c.at)) j c.from_below c.to_above)) in
           cell_odd h c.at z s b c.number ns whole c.is_region c.is_cell ∙ sym (whole.together r c.number hr c.is_region one)

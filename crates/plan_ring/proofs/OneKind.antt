@@ -1,6 +1,5 @@
 -- Of two clear points exactly one kind of answer exists: a path along a walk between their regions, or the ring of the component of the first.
-use Rattle.std.proofs.Common.{◌⊎◌, inl, inr, ℕ, ◌<◌, List, length}
-use Rattle.std.proofs.lemmas.Bool.{and_parts, ltb-true}
+use Rattle.std.proofs.Common.{◌⊎◌, inl, inr, ℕ, List, length}
 use Rattle.plan_spec.specs.Vector.{Vector, IsPoint}
 use Rattle.plan_spec.specs.Frame.{Frame}
 use Rattle.plan_spec.specs.Neighbours.{neighbours, AreNeighbours}
@@ -18,14 +17,8 @@ use Rattle.plan_slab.proofs.Decomposition.{decomposition, clear_of}
 use Rattle.plan_slab.proofs.Pieces.{has_pieces}
 use Rattle.plan_slab.proofs.Sorted.Exist.{slabs_exist, regions_exist}
 use Rattle.plan_ring.specs.Laws.{OneKindOfAnswer, HasPath, HasChain}
-use Rattle.plan_ring.proofs.Component.{joined_in, ring_points, ring_accepted}
+use Rattle.plan_ring.proofs.Component.{are_regions, joined_in, ring_points, ring_accepted}
 use Rattle.plan_ring.proofs.Reach.{joined_or_not, component}
-
-are_regions : (σ : Slabs) (found : List Lot) (m n : ℕ) → AreNeighbours σ found m n → (m < length found) × (n < length found)
-are_regions σ found m n e =
-    let p = and_parts _ _ e in
-    let q = and_parts _ _ p.1 in
-    (ltb-true m (length found) p.0, ltb-true n (length found) q.0)
 
 module _ (scene : Scene) {sums : List (List Vector)} {room : Frame} {σ : Slabs} {found : List Lot} (floor : IsFloorOf scene sums room) (d : IsDecomposition sums room σ found) (s g : Vector) (hs : IsPoint s) (hg : IsPoint g) where
   one_or_the_other : (m n : ℕ) → IsIn σ found s m → IsIn σ found g n → HasPath scene s g ⊎ HasChain scene s g

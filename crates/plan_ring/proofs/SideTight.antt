@@ -26,7 +26,7 @@ use Rattle.plan_plane.proofs.Segment.ByX.{leX_trans}
 use Rattle.plan_slab.specs.Decomposition.{Touched}
 use Rattle.plan_slab.specs.Meets.{IsSloped}
 use Rattle.plan_ring.proofs.Entering.{held_along}
-use Rattle.plan_ring.proofs.Places.{leY_ltY, ltY_leY}
+use Rattle.plan_map.proofs.Path.Places.{leY_ltY, ltY_leY}
 
 -- on an edge of the boundary that is not upright
 abbrev pub OnSloped : List (List Vector) → Frame → Vector → Type 0

@@ -1,5 +1,5 @@
 -- What is kept of a free cell is sound: each segment has two ends, which are points, and is tight.
-use Rattle.std.proofs.Common.{◌≡◌, ◌⊎◌, inl, inr, ⊎_elim, ℕ, zero, suc, ◌+◌, ◌-◌, ◌<◌, ◌≤◌, ◌*ℤ◌, Bool, true, false, List, [], ◌∷◌, length, All, if◌then◌else◌, refl, sym, subst, arith}
+use Rattle.std.proofs.Common.{◌≡◌, ◌⊎◌, inl, inr, ℕ, zero, suc, ◌+◌, ◌-◌, ◌<◌, ◌≤◌, ◌*ℤ◌, Bool, true, false, List, [], ◌∷◌, length, All, if◌then◌else◌, refl, sym, subst, arith}
 use Rattle.std.proofs.lemmas.Bool.{cases_lt}
 use Rattle.std.proofs.lemmas.List.Elements.{All-append, All-nil, All-cons}
 use Rattle.plan_exact.proofs.Laws.{linear}
@@ -18,7 +18,7 @@ use Rattle.plan_plane.proofs.Segment.Between.{Between, between_x, flip, flipped,
 use Rattle.plan_plane.proofs.Segment.ByX.{leX_trans}
 use Rattle.plan_slab.specs.Decomposition.{IsDecomposition}
 use Rattle.plan_ring.proofs.Exposed.{OnRim, exposed}
-use Rattle.plan_ring.proofs.Places.{IsLineOf, meets_at, is_line, lines_le, marks_le, level, met, met_point, on_span, meets_rise, not_below_span, not_above_span, leY_trans, leY_ltY, ltY_leY}
+use Rattle.plan_map.proofs.Path.Places.{IsLineOf, meets_at, is_line, between_lines, marks_le, level, met, met_point, on_span, meets_rise, not_below_span, not_above_span, leY_trans, leY_ltY, ltY_leY}
 use Rattle.plan_ring.proofs.Sides.{first_point, last_point, first_level, last_level, side_runs}
 use Rattle.plan_ring.proofs.SideTight.{IsBarePart, part_tight}
 
@@ -66,8 +66,8 @@ module _ {sums : List (List Vector)} {room : Frame} {σ : Slabs} {found : List L
         (
           (λ same. let g = same.0 in omega (arith, linear)),
           part_of_tight sums room s l r (d.span_tight k i hk hi)
-              (between_x s.a s.b l runs al (leX_trans l r s.b pl pr hs.1 (le_of_lt run) rb) (on_span d k k i hk (inl refl) hi))
-              (between_x s.a s.b r runs (leX_trans s.a l r hs.0 pl pr al (le_of_lt run)) rb (on_span d k (suc k) i hk (inr refl) hi)),
+              (between_x s.a s.b l runs al (leX_trans l r s.b pl pr hs.1 (le_of_lt run) rb) (on_span d.placed k k i hk (inl refl) hi))
+              (between_x s.a s.b r runs (leX_trans s.a l r hs.0 pl pr al (le_of_lt run)) rb (on_span d.placed k (suc k) i hk (inr refl) hi)),
         ),
       )
 
@@ -83,25 +83,16 @@ module _ {sums : List (List Vector)} {room : Frame} {σ : Slabs} {found : List L
     hi = omega (arith, h1)
 
     hh : h < length σ.lines
-    hh = is_line d k h hk b
-
-    k_le : k ≤ h
-    k_le = ⊎_elim (λ e. omega arith) (λ e. omega arith) b
-
-    le_k : h ≤ suc k
-    le_k = ⊎_elim (λ e. omega arith) (λ e. omega arith) b
+    hh = is_line d.placed k h hk b
 
     on_rim : (z : Vector) → IsPoint z → SameX z (line_at σ h) → LeY (mark_at σ h (meets_at σ k h i)) z → LeY z (mark_at σ h (meets_at σ k h (suc i))) → OnRim (line_at σ k) (line_at σ (suc k)) (span_at σ k i) (span_at σ k (suc i)) z
     on_rim z hz level up down =
-        let ph = d.placed.line_points h hh in
-        let hl : LeX (line_at σ h) z = omega (arith, linear) in
-        let lh : LeX z (line_at σ h) = omega (arith, linear) in
-        let h0 : k < length σ.lines = omega (arith, hk) in
+        let lines = between_lines d.placed k h z hk b hz level in
         record {
-          after = leX_trans (line_at σ k) (line_at σ h) z (d.placed.line_points k h0) ph hz (lines_le d k h k_le hh) hl;
-          before = leX_trans z (line_at σ h) (line_at σ (suc k)) hz ph (d.placed.line_points (suc k) hk) lh (lines_le d h (suc k) le_k hk);
-          above = not_below_span d k h i hk b hi z hz level up;
-          below = not_above_span d k h (suc i) hk b h1 z hz level down;
+          after = lines.0;
+          before = lines.1;
+          above = not_below_span d.placed k h i hk b hi z hz level up;
+          below = not_above_span d.placed k h (suc i) hk b h1 z hz level down;
         }
 
     uncovered : (z : Vector) → IsPoint z → SameX z (line_at σ h) → LeY (mark_at σ h (meets_at σ k h i)) z → LeY z (mark_at σ h (meets_at σ k h (suc i))) → IsUncovered sums room z
@@ -112,7 +103,7 @@ module _ {sums : List (List Vector)} {room : Frame} {σ : Slabs} {found : List L
 
     module _ (j : ℕ) (from : meets_at σ k h i ≤ j) (to : suc j ≤ meets_at σ k h (suc i)) where
       within : suc j < length (marks_of σ h)
-      within = omega (arith, met d k h (suc i) hk b h1)
+      within = omega (arith, met d.placed k h (suc i) hk b h1)
 
       first : IsPoint (mark_at σ h j)
       first = d.placed.mark_points h j hh (omega (arith, within))
@@ -127,36 +118,36 @@ module _ {sums : List (List Vector)} {room : Frame} {σ : Slabs} {found : List L
       bare_part = record {
         first = first;
         last = last;
-        upright = level d h (suc j) (mark_at σ h j) hh within first (d.placed.on_line h j hh (omega (arith, within)));
+        upright = level d.placed h (suc j) (mark_at σ h j) hh within first (d.placed.on_line h j hh (omega (arith, within)));
         uncovered = exposes;
         bare = λ z hz same up down some. let (n, hn, at) = d.mark_rule h z hh hz (on_h z hz same) (exposes z hz same up down) some in no_mark z hz up down n hn at.1 (cases_lt j n);
       }
         where
           lo : meets_at σ k h i < length (marks_of σ h)
-          lo = met d k h i hk b hi
+          lo = met d.placed k h i hk b hi
 
           up_to : meets_at σ k h (suc i) < length (marks_of σ h)
-          up_to = met d k h (suc i) hk b h1
+          up_to = met d.placed k h (suc i) hk b h1
 
           exposes : (z : Vector) → IsPoint z → SameX (mark_at σ h j) z → LtY (mark_at σ h j) z → LtY z (mark_at σ h (suc j)) → IsUncovered sums room z
           exposes z hz same up down =
               uncovered z hz (on_h z hz same)
-              (leY_trans (mark_at σ h (meets_at σ k h i)) (mark_at σ h j) z (met_point d k h i hk b hi) first hz (marks_le d h (meets_at σ k h i) j hh from (omega (arith, within))) (le_of_lt up))
-              (leY_trans z (mark_at σ h (suc j)) (mark_at σ h (meets_at σ k h (suc i))) hz last (met_point d k h (suc i) hk b h1) (le_of_lt down) (marks_le d h (suc j) (meets_at σ k h (suc i)) hh to up_to))
+              (leY_trans (mark_at σ h (meets_at σ k h i)) (mark_at σ h j) z (met_point d.placed k h i hk b hi) first hz (marks_le d.placed h (meets_at σ k h i) j hh from (omega (arith, within))) (le_of_lt up))
+              (leY_trans z (mark_at σ h (suc j)) (mark_at σ h (meets_at σ k h (suc i))) hz last (met_point d.placed k h (suc i) hk b h1) (le_of_lt down) (marks_le d.placed h (suc j) (meets_at σ k h (suc i)) hh to up_to))
 
           no_mark : (z : Vector) → IsPoint z → LtY (mark_at σ h j) z → LtY z (mark_at σ h (suc j)) → (n : ℕ) → n < length (marks_of σ h) → z.y *ℤ (mark_at σ h n).w ≡ (mark_at σ h n).y *ℤ z.w → (j < n) ⊎ (n ≤ j) → ⊥
-          no_mark z hz up down n hn same (inl l) = omega (arith, linear, ltY_leY z (mark_at σ h (suc j)) (mark_at σ h n) hz last (d.placed.mark_points h n hh hn) down (marks_le d h (suc j) n hh (omega arith) hn))
-          no_mark z hz up down n hn same (inr l) = omega (arith, linear, leY_ltY (mark_at σ h n) (mark_at σ h j) z (d.placed.mark_points h n hh hn) first hz (marks_le d h n j hh l (omega (arith, within))) up)
+          no_mark z hz up down n hn same (inl l) = omega (arith, linear, ltY_leY z (mark_at σ h (suc j)) (mark_at σ h n) hz last (d.placed.mark_points h n hh hn) down (marks_le d.placed h (suc j) n hh (omega arith) hn))
+          no_mark z hz up down n hn same (inr l) = omega (arith, linear, leY_ltY (mark_at σ h n) (mark_at σ h j) z (d.placed.mark_points h n hh hn) first hz (marks_le d.placed h n j hh l (omega (arith, within))) up)
 
       part_good : has_wall found h j ≡ false → IsGood sums room (part σ h j)
       part_good off =
           let (hm, inside, touched) = d.closed_walls h j hh within off in
           let rises = d.placed.marks_rise h j (suc j) hh (omega arith) within in
           let m = spot_of σ (wall h j) in
-          ((first, last), ((λ same. let g = same.1 in omega (arith, linear)), part_tight d.floor bare_part m hm (sym (level d h j m hh (omega (arith, within)) hm inside.at)) inside.above inside.below touched))
+          ((first, last), ((λ same. let g = same.1 in omega (arith, linear)), part_tight d.floor bare_part m hm (sym (level d.placed h j m hh (omega (arith, within)) hm inside.at)) inside.above inside.below touched))
 
     parts_good : All (IsGood sums room) (closed_parts σ found h (meets_at σ k h i) (meets_at σ k h (suc i) - meets_at σ k h i))
-    parts_good = parts_all (IsGood sums room) σ found h (meets_at σ k h i) (meets_at σ k h (suc i) - meets_at σ k h i) (λ j from less. let rise = meets_rise d k h i b h1 in part_good j from (omega arith))
+    parts_good = parts_all (IsGood sums room) σ found h (meets_at σ k h i) (meets_at σ k h (suc i) - meets_at σ k h i) (λ j from less. let rise = meets_rise d.order k h i b h1 in part_good j from (omega arith))
 
   -- ---- all that is kept
   pub kept_good : (c : ℕ) → c < length found → All (IsGood sums room) (kept σ found (region_at found c))

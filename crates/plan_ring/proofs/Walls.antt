@@ -16,7 +16,7 @@ use Rattle.plan_plane.proofs.Rising.ByCoordinate.{order_x}
 use Rattle.plan_plane.proofs.Segment.ByX.{leX_trans}
 use Rattle.plan_slab.specs.Decomposition.{IsDecomposition}
 use Rattle.plan_ring.proofs.NearOrder.{near_neg, near_right, near_left, clear_near}
-use Rattle.plan_ring.proofs.Places.{IsLineOf, meets_at, Fits, fits, lines_le, above_from, below_from}
+use Rattle.plan_map.proofs.Path.Places.{IsLineOf, meets_at, lines_le, above_from, below_from}
 
 -- a cell of slab k in whose side on line h wall j lies, by its number
 pub record SideCell (σ : Slabs) (found : List Lot) (k h j : ℕ) : Type 0 where
@@ -60,7 +60,19 @@ eastward = record { x = pos 1; y = pos 0; w = pos 0 }
 abbrev westward : Vector
 westward = record { x = negsuc 0; y = pos 0; w = pos 0 }
 
+-- the lines of the lot and its spans or marks are there
+abbrev pub Fits : Slabs → Lot → Type 0
+Fits σ (cell k i) = (suc k < length σ.lines) × (suc i < length (spans_of σ k))
+Fits σ (wall h j) = (h < length σ.lines) × (suc j < length (marks_of σ h))
+
 module _ {sums : List (List Vector)} {room : Frame} {σ : Slabs} {found : List Lot} (d : IsDecomposition sums room σ found) where
+  pub fits : (n : ℕ) → n < length found → Fits σ (region_at found n)
+  fits n hn = by (region_at found n) refl
+    where
+      by : (x : Lot) → region_at found n ≡ x → Fits σ x
+      by (cell k i) e = d.once.cells n k i hn e
+      by (wall h j) e = d.once.walls n h j hn e
+
   -- ---- the region that holds a point, by the lines beside the point
   abbrev IsHeld : Vector → Type 0
   IsHeld p = (n : ℕ) × (n < length found) × Holds σ (region_at found n) p
@@ -75,7 +87,7 @@ module _ {sums : List (List Vector)} {room : Frame} {σ : Slabs} {found : List L
   last_line (wall h j) = h
 
   region_from : (n : ℕ) (p : Vector) → n < length found → IsPoint p → Holds σ (region_at found n) p → LeX (line_at σ (first_line (region_at found n))) p × (LeX p (line_at σ (last_line (region_at found n))) × (last_line (region_at found n) < length σ.lines))
-  region_from n p hn hp = by (region_at found n) (fits d n hn)
+  region_from n p hn hp = by (region_at found n) (fits n hn)
     where
       by : (x : Lot) → Fits σ x → Holds σ x p → LeX (line_at σ (first_line x)) p × (LeX p (line_at σ (last_line x)) × (last_line x < length σ.lines))
       by (cell k i) is inside = (le_of_lt inside.after, (le_of_lt inside.before, is.0))
@@ -90,7 +102,7 @@ module _ {sums : List (List Vector)} {room : Frame} {σ : Slabs} {found : List L
     | inl h ↦ h
     | inr h ↦
         let r = (region_from held.0 p held.1 hp held.2).1 in
-        absurd (omega (arith, linear, leX_trans p (line_at σ (last_line (region_at found held.0))) (line_at σ k) hp (d.placed.line_points (last_line (region_at found held.0)) r.1) (d.placed.line_points k hk) r.0 (lines_le d (last_line (region_at found held.0)) k h hk)))
+        absurd (omega (arith, linear, leX_trans p (line_at σ (last_line (region_at found held.0))) (line_at σ k) hp (d.placed.line_points (last_line (region_at found held.0)) r.1) (d.placed.line_points k hk) r.0 (lines_le d.placed (last_line (region_at found held.0)) k h hk)))
   ]
 
   before_line : (k : ℕ) (p : Vector) → k < length σ.lines → IsPoint p → LtX p (line_at σ k) → (held : IsHeld p) → first_line (region_at found held.0) < k
@@ -99,7 +111,7 @@ module _ {sums : List (List Vector)} {room : Frame} {σ : Slabs} {found : List L
     | inr h ↦
         let r = region_from held.0 p held.1 hp held.2 in
         let hf = first_within (region_at found held.0) r.1.1 in
-        absurd (omega (arith, linear, leX_trans (line_at σ k) (line_at σ (first_line (region_at found held.0))) p (d.placed.line_points k hk) (d.placed.line_points (first_line (region_at found held.0)) hf) hp (lines_le d k (first_line (region_at found held.0)) h hf) r.0))
+        absurd (omega (arith, linear, leX_trans (line_at σ k) (line_at σ (first_line (region_at found held.0))) p (d.placed.line_points k hk) (d.placed.line_points (first_line (region_at found held.0)) hf) hp (lines_le d.placed k (first_line (region_at found held.0)) h hf) r.0))
   ]
     where
       first_within : (x : Lot) → last_line x < length σ.lines → first_line x < length σ.lines
@@ -116,7 +128,7 @@ module _ {sums : List (List Vector)} {room : Frame} {σ : Slabs} {found : List L
     holds : InCell (line_at σ k) (line_at σ (suc k)) (span_at σ k at) (span_at σ k (suc at)) p
 
   found_in_slab : (k : ℕ) (p : Vector) → suc k < length σ.lines → IsPoint p → LtX (line_at σ k) p → LtX p (line_at σ (suc k)) → IsHeld p → Found k p
-  found_in_slab k p hk hp right left held = by (region_at found held.0) refl (after_line k p (omega (arith, hk)) hp right held) (before_line (suc k) p hk hp left held) (fits d held.0 held.1) held.2
+  found_in_slab k p hk hp right left held = by (region_at found held.0) refl (after_line k p (omega (arith, hk)) hp right held) (before_line (suc k) p hk hp left held) (fits held.0 held.1) held.2
     where
       by : (x : Lot) → region_at found held.0 ≡ x → k < last_line x → first_line x < suc k → Fits σ x → Holds σ x p → Found k p
       by (wall h j) e after before is inside = absurd (omega arith)
@@ -144,11 +156,11 @@ module _ {sums : List (List Vector)} {room : Frame} {σ : Slabs} {found : List L
             is_cell = f.is_cell;
             from_below = elim (cases_lt j (meets_at σ k h f.at)) [
               | inr l ↦ l
-              | inl l ↦ absurd (omega (arith, linear, f.holds.above, (keeps f.at h0).below (below_from d k h f.at hk b h0 z hz inside.at j hj inside.below l)))
+              | inl l ↦ absurd (omega (arith, linear, f.holds.above, (keeps f.at h0).below (below_from d.placed k h f.at hk b h0 z hz inside.at j hj inside.below l)))
             ];
             to_above = elim (cases_lt j (meets_at σ k h (suc f.at))) [
               | inl l ↦ l
-              | inr l ↦ absurd (omega (arith, linear, f.holds.below, (keeps (suc f.at) h1).above (above_from d k h (suc f.at) hk b h1 z hz inside.at j hj inside.above l)))
+              | inr l ↦ absurd (omega (arith, linear, f.holds.below, (keeps (suc f.at) h1).above (above_from d.placed k h (suc f.at) hk b h1 z hz inside.at j hj inside.above l)))
             ];
           }
 
@@ -163,7 +175,7 @@ module _ {sums : List (List Vector)} {room : Frame} {σ : Slabs} {found : List L
 
   free_wall : (n h j : ℕ) → n < length found → region_at found n ≡ wall h j → FreeWall h j
   free_wall n h j hn e =
-      let is : Fits σ (wall h j) = subst (Fits σ) e (fits d n hn) in
+      let is : Fits σ (wall h j) = subst (Fits σ) e (fits n hn) in
       let (hz, inside) = d.spots n hn in
       let z = spot_of σ (region_at found n) in
       record { is_line = is.0; is_wall = is.1; point = z; is_point = hz; holds = subst (λ x. Holds σ x z) e inside; clear = d.clear n z hn hz inside }

@@ -25,11 +25,11 @@ use Rattle.plan_slab.proofs.Regions.ExactlyOne.{KnownSlabs, known_slabs, has_lin
 use Rattle.plan_slab.proofs.Regions.Numbered.{is_lot, one_number, region_clear, exactly_one, other_touches}
 
 -- ---- the free walls
-is_wall_is : (k j : ℕ) (lot : Lot) → is_wall k j lot ≡ true → lot ≡ wall k j
+pub is_wall_is : (k j : ℕ) (lot : Lot) → is_wall k j lot ≡ true → lot ≡ wall k j
 is_wall_is k j (cell n i) e = absurd (cc)
 is_wall_is k j (wall n i) e = let p = and_parts _ _ e in ap₂ wall (eqb-true n k p.0) (eqb-true i j p.1)
 
-wall_is_wall : (k j : ℕ) (lot : Lot) → lot ≡ wall k j → is_wall k j lot ≡ true
+pub wall_is_wall : (k j : ℕ) (lot : Lot) → lot ≡ wall k j → is_wall k j lot ≡ true
 wall_is_wall k j lot e = ap (is_wall k j) e ∙ ap₂ (λ a b. a && b) (eq-eqb k k refl) (eq-eqb j j refl)
 
 pub wall_number : (k j : ℕ) (found : List Lot) → has_wall found k j ≡ true → (n : ℕ) × (n < length found) × (region_at found n ≡ wall k j)

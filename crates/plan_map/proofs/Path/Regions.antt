@@ -1,22 +1,19 @@
 -- A region is convex, and the way from a point of a wall to a point of a cell beside it is in the two.
 use Rattle.std.proofs.Common.{◌≡◌, ◌⊎◌, inl, inr, ℕ, suc, ◌<◌, ◌≤◌, pos, ◌<ℤ◌, Bool, true, false, length, refl, sym, subst, arith}
-use Rattle.std.proofs.lemmas.Bool.{and_parts, or_cases, eqb-true, leb-true, ltb-true, cases_eq}
+use Rattle.std.proofs.lemmas.Bool.{and_parts, or_cases, eqb-true, leb-true, ltb-true}
 use Rattle.plan_exact.specs.Vectors.{cross, opposite}
 use Rattle.plan_exact.proofs.Laws.{linear}
-use Rattle.plan_exact.proofs.Signs.{le_of_lt}
 use Rattle.plan_exact.proofs.Vectors.{dot_opposite}
-use Rattle.plan_spec.specs.Vector.{Vector, IsPoint, SameX, LeX, LtX, LeY, Same, same, turn}
+use Rattle.plan_spec.specs.Vector.{Vector, IsPoint, LeX, Same, same, turn}
 use Rattle.plan_spec.specs.Segment.{Segment}
 use Rattle.plan_spec.specs.Slabs.{Slabs, line_at, spans_of, span_at, marks_of, mark_at}
 use Rattle.plan_spec.specs.Regions.{Lot, cell, wall, InCell, Holds}
-use Rattle.plan_spec.specs.Neighbours.{on_left, on_right, in_left, in_right, beside}
-use Rattle.plan_plane.proofs.Rising.ByCoordinate.{order_x}
+use Rattle.plan_spec.specs.Neighbours.{in_left, in_right, beside}
 use Rattle.plan_plane.proofs.Segment.AtEnds.{second_weight, pos_by_second}
 use Rattle.plan_plane.proofs.Segment.Between.{Between, between_same, pos_at, neg_at, flip, right_of, right_of_is, LeX_before, LeX_after, LtX_before, LtX_after, flipped}
-use Rattle.plan_plane.proofs.Segment.ByX.{ltX_leX, leX_ltX}
 use Rattle.plan_plane.proofs.Segment.Same.{same_true, same_from, Same-swapped}
 use Rattle.plan_slab.specs.Decomposition.{IsPlaced}
-use Rattle.plan_slab.proofs.Regions.SpanLines.{above_line, below_line}
+use Rattle.plan_map.proofs.Path.Places.{IsLineOf, meets_at, between_lines, above_from, below_from}
 
 -- ---- one region
 pub convex_lot : (σ : Slabs) (lot : Lot) {p q z : Vector} → IsPoint z → Holds σ lot p → Holds σ lot q → Between p q z → Holds σ lot z
@@ -56,52 +53,12 @@ to_cell l r s t {m} {c} {z} hm hz after before above below inside b = by (same z
 
 -- ---- by number
 module _ {σ : Slabs} (placed : IsPlaced σ) where
-  marks_le : (k i j : ℕ) → k < length σ.lines → i ≤ j → j < length (marks_of σ k) → LeY (mark_at σ k i) (mark_at σ k j)
-  marks_le k i j hk h hj = elim (cases_eq i j) [
-    | inl e ↦ subst (λ j. LeY (mark_at σ k i) (mark_at σ k j)) e (omega (arith, linear))
-    | inr d ↦ le_of_lt (placed.marks_rise k i j hk (omega arith) hj)
-  ]
-
-  mark_level : (k j : ℕ) (z : Vector) → k < length σ.lines → j < length (marks_of σ k) → IsPoint z → SameX z (line_at σ k) → SameX z (mark_at σ k j)
-  mark_level k j z hk hj hz e = order_x.trans z (line_at σ k) (mark_at σ k j) hz (placed.line_points k hk) (placed.mark_points k j hk hj) e (sym (placed.on_line k j hk hj))
-
-  -- a point of a wall of line h is above a line that meets h in a mark below it, and below one that meets h in a mark above it
-  above_span : (s : Segment) (h lo j : ℕ) {m : Vector} → h < length σ.lines → suc j < length (marks_of σ h) → lo ≤ j → LtX s.a s.b → turn s.a s.b (mark_at σ h lo) ≡ pos 0 → IsPoint m → Holds σ (wall h j) m → pos 0 <ℤ turn s.a s.b m
-  above_span s h lo j {m} hh hj le rises on hm w =
-      let u = mark_at σ h lo in
-      let hu = placed.mark_points h lo hh (omega arith) in
-      above_line s u m rises hu on (mark_level h lo m hh (omega arith) hm w.at) (leX_ltX (flip u) (flip (mark_at σ h j)) (flip m) hu (placed.mark_points h j hh (omega arith)) hm (marks_le h lo j hh le (omega arith)) w.above)
-
-  below_span : (s : Segment) (h j up : ℕ) {m : Vector} → h < length σ.lines → up < length (marks_of σ h) → j < up → LtX s.a s.b → turn s.a s.b (mark_at σ h up) ≡ pos 0 → IsPoint m → Holds σ (wall h j) m → turn s.a s.b m <ℤ pos 0
-  below_span s h j up {m} hh hup less rises on hm w =
-      let u = mark_at σ h up in
-      let hu = placed.mark_points h up hh hup in
-      below_line s u m rises hu on (mark_level h up m hh hup hm w.at) (ltX_leX (flip m) (flip (mark_at σ h (suc j))) (flip u) hm (placed.mark_points h (suc j) hh (omega arith)) hu w.below (marks_le h (suc j) up hh less hup))
-
-  -- the wall is in the cell's left side, or in its right side
-  module _ (k i j : ℕ) (hk : suc k < length σ.lines) (hi : suc i < length (spans_of σ k)) {m c z : Vector} (hm : IsPoint m) (hc : IsPoint c) (hz : IsPoint z) (inside : Holds σ (cell k i) c) (b : Between m c z) where
-    wide : LtX (line_at σ k) (line_at σ (suc k))
-    wide = placed.lines_rise k (suc k) (omega arith) hk
-
-    from_left : suc j < length (marks_of σ k) → on_left σ k i ≤ j → j < on_left σ k (suc i) → Holds σ (wall k j) m → Same m z ⊎ Holds σ (cell k i) z
-    from_left hj low high w =
-        let e = w.at in
-        let lm : LeX (line_at σ k) m = omega (arith, linear) in
-        let ml : LeX m (line_at σ k) = omega (arith, linear) in
-        to_cell (line_at σ k) (line_at σ (suc k)) (span_at σ k i) (span_at σ k (suc i)) hm hz lm
-        (le_of_lt (leX_ltX m (line_at σ k) (line_at σ (suc k)) hm (placed.line_points k (omega arith)) (placed.line_points (suc k) hk) ml wide))
-        (above_span (span_at σ k i) k (on_left σ k i) j (omega arith) hj low (placed.rightward k i hk (omega arith)) (placed.left_on_span k i hk (omega arith)) hm w)
-        (below_span (span_at σ k (suc i)) k j (on_left σ k (suc i)) (omega arith) (placed.left_marks k (suc i) hk hi) high (placed.rightward k (suc i) hk hi) (placed.left_on_span k (suc i) hk hi) hm w) inside b
-
-    from_right : suc j < length (marks_of σ (suc k)) → on_right σ k i ≤ j → j < on_right σ k (suc i) → Holds σ (wall (suc k) j) m → Same m z ⊎ Holds σ (cell k i) z
-    from_right hj low high w =
-        let e = w.at in
-        let lm : LeX (line_at σ (suc k)) m = omega (arith, linear) in
-        let ml : LeX m (line_at σ (suc k)) = omega (arith, linear) in
-        to_cell (line_at σ k) (line_at σ (suc k)) (span_at σ k i) (span_at σ k (suc i)) hm hz
-        (le_of_lt (ltX_leX (line_at σ k) (line_at σ (suc k)) m (placed.line_points k (omega arith)) (placed.line_points (suc k) hk) hm wide lm)) ml
-        (above_span (span_at σ k i) (suc k) (on_right σ k i) j hk hj low (placed.rightward k i hk (omega arith)) (placed.right_on_span k i hk (omega arith)) hm w)
-        (below_span (span_at σ k (suc i)) (suc k) j (on_right σ k (suc i)) hk (placed.right_marks k (suc i) hk hi) high (placed.rightward k (suc i) hk hi) (placed.right_on_span k (suc i) hk hi) hm w) inside b
+  -- the wall is in the cell's side on the line h
+  from_side : (k h i j : ℕ) → suc k < length σ.lines → IsLineOf k h → suc i < length (spans_of σ k) → suc j < length (marks_of σ h) → meets_at σ k h i ≤ j → j < meets_at σ k h (suc i) → {m c z : Vector} → IsPoint m → IsPoint z → Holds σ (wall h j) m → Holds σ (cell k i) c → Between m c z → Same m z ⊎ Holds σ (cell k i) z
+  from_side k h i j hk side hi hj low high {m} hm hz w inside b =
+      let lines = between_lines placed k h m hk side hm w.at in
+      to_cell (line_at σ k) (line_at σ (suc k)) (span_at σ k i) (span_at σ k (suc i)) hm hz lines.0 lines.1
+      (above_from placed k h i hk side (omega arith) m hm w.at j hj w.above low) (below_from placed k h (suc i) hk side hi m hm w.at j hj w.below high) inside b
 
   -- whichever side
   pub between_lots : (a b : Lot) → ((k j : ℕ) → a ≡ wall k j → (k < length σ.lines) × (suc j < length (marks_of σ k))) → ((k i : ℕ) → b ≡ cell k i → (suc k < length σ.lines) × (suc i < length (spans_of σ k)))
@@ -126,9 +83,9 @@ module _ {σ : Slabs} (placed : IsPlaced σ) where
           let u = and_parts _ _ f in
           let v = and_parts _ _ u.1 in
           let same : h ≡ k = eqb-true h k u.0 in
-          back (from_left k i j c.0 c.1 hp hq hz iq on (subst (λ h. suc j < length (marks_of σ h)) same w.1) (leb-true _ _ v.0) (ltb-true _ _ v.1) (subst (λ h. Holds σ (wall h j) p) same ip))
+          back (from_side k h i j c.0 (inl same) c.1 w.1 (subst (λ h. meets_at σ k h i ≤ j) (sym same) (leb-true _ _ v.0)) (subst (λ h. j < meets_at σ k h (suc i)) (sym same) (ltb-true _ _ v.1)) hp hz ip iq on)
       by (inr f) =
           let u = and_parts _ _ f in
           let v = and_parts _ _ u.1 in
           let same : h ≡ suc k = eqb-true h (suc k) u.0 in
-          back (from_right k i j c.0 c.1 hp hq hz iq on (subst (λ h. suc j < length (marks_of σ h)) same w.1) (leb-true _ _ v.0) (ltb-true _ _ v.1) (subst (λ h. Holds σ (wall h j) p) same ip))
+          back (from_side k h i j c.0 (inr same) c.1 w.1 (subst (λ h. meets_at σ k h i ≤ j) (sym same) (leb-true _ _ v.0)) (subst (λ h. j < meets_at σ k h (suc i)) (sym same) (ltb-true _ _ v.1)) hp hz ip iq on)
