@@ -6,3 +6,8 @@ pub mod Decomposition
 pub mod Sides
 pub mod LotOrder
 pub mod Near
+pub mod EventLines
+pub mod Heights
+pub mod Seen
+pub mod SlabsSeen
+pub mod FreeLots

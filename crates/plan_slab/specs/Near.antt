@@ -1,10 +1,25 @@
 -- Which sums may hold a point at a given x, by their boxes, and what is then left to test.
-use Rattle.std.specs.Prelude.{ℕ, ◌<◌, ◌*ℤ◌, ◌≤ℤ◌, ◌<ℤ◌, List, length, get_or, All, Contains}
+use Rattle.std.specs.Prelude.{◌≡◌, ℕ, ◌<◌, ◌*ℤ◌, ◌≤ℤ◌, ◌<ℤ◌, List, length, get_or, All, Contains}
 use Rattle.plan_spec.specs.Vector.{Vector}
 use Rattle.plan_spec.specs.Polygon.{Inside}
 use Rattle.plan_grid.specs.declared.frame.Frame.{Frame}
 use Rattle.plan_grid.specs.declared.spot.Spot.{Spot}
-use Rattle.plan_grid.specs.Spot.{spots_seen}
+use Rattle.plan_grid.specs.Spot.{spots_seen, IsWithin}
+use Rattle.plan_grid.specs.declared.bounds.TheConstants.{MOST_COORDINATE}
+use Rattle.plan_convex.specs.Boxes.{Encloses}
+use Rattle.plan_convex.specs.Convex.{IsPolygon}
+
+-- the corners have coordinates of at most 2046
+pub record AreWithin (box : Frame) : Type 0 where
+  pub low : IsWithin MOST_COORDINATE box.low
+  pub high : IsWithin MOST_COORDINATE box.high
+
+-- one for each polygon, which encloses its vertices
+pub record AreBoxes (sums : List (List Spot)) (boxes : List Frame) : Type 0 where
+  pub polygons : All IsPolygon sums
+  pub bounded : All AreWithin boxes
+  pub same_length : length boxes ≡ length sums
+  pub enclose : (k : ℕ) (v : List Spot) (f : Frame) → k < length sums → All (Encloses (get_or boxes k f)) (get_or sums k v)
 
 -- the closed range of x of the box has that of z
 abbrev pub HasX : Frame → Vector → Type 0

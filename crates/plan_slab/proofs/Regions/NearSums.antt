@@ -38,7 +38,7 @@ in_box polygon box z is boxed inside = (
     at l f = nonneg_at (spots_seen polygon) z is.convex (omega (arith, is.at_least_three, length-map polygon spot_seen)) inside l (All-map (λ v. pos 0 ≤ℤ dot l v) spot_seen polygon (λ k d within. f (get_or polygon k d) (boxed k d within)))
 
 -- the range is that of any point with the x
-same_range : (box : Frame) (x z : Vector) → IsPoint x → IsPoint z → SameX x z → HasX box z → HasX box x
+pub same_range : (box : Frame) (x z : Vector) → IsPoint x → IsPoint z → SameX x z → HasX box z → HasX box x
 same_range box x z hx hz e h =
     let low : Vector = spot box.low.x (pos 0) in
     let high : Vector = spot box.high.x (pos 0) in

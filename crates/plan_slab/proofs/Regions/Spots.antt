@@ -22,7 +22,7 @@ use Rattle.plan_slab.proofs.Order.OneOrder.{foot_inside}
 halfway_is : (u v : Vector) → halfway u v ≡ sum (scaled v.w u) (scaled u.w v)
 halfway_is u v = ring_vectors (env [] (u ∷ v ∷ [])) (record { x = A.x ⊗ B.w ⊕ B.x ⊗ A.w; y = A.y ⊗ B.w ⊕ B.y ⊗ A.w; w = con (pos 2) ⊗ (A.w ⊗ B.w) }) (F.sum (F.scaled B.w A) (F.scaled A.w B)) tt
 
-halfway_point : (u v : Vector) → IsPoint u → IsPoint v → IsPoint (halfway u v)
+pub halfway_point : (u v : Vector) → IsPoint u → IsPoint v → IsPoint (halfway u v)
 halfway_point u v hu hv = omega (arith, linear, mul_pos hu hv)
 
 halfway_turn : (s : Segment) (u v : Vector) → turn s.a s.b (halfway u v) ≡ v.w *ℤ turn s.a s.b u +ℤ u.w *ℤ turn s.a s.b v
