@@ -1,6 +1,7 @@
 pub mod Streams
 pub mod Lists
 pub mod Bytes
+mod Cases
 pub mod Each
 pub mod Places
 pub mod Kept
