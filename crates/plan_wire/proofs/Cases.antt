@@ -1,13 +1,13 @@
 -- The definition of documents, tried on texts: each line computes.
-use Rattle.std.specs.Prelude.{◌≡◌, ⊤, ℕ, ℤ, pos, negsuc, neg_ℤ, ◌++◌, List, [], ◌∷◌, codes, Ok, Err, refl}
+use Rattle.std.specs.Prelude.{◌≡◌, ⊤, ℕ, pos, neg_ℤ, ◌++◌, List, [], ◌∷◌, codes, Ok, Err, refl}
 use Rattle.std.specs.Str.{is_utf8, chars}
 use Rattle.std.specs.Fmt.{digits}
 use Rattle.serde_json.specs.Read.{read}
 use Rattle.serde_json.proofs.OnLiterals.{serde_json_on_literals}
-use Rattle.plan_spec.specs.Vector.{Vector, spot}
+use Rattle.plan_spec.specs.Vector.{spot}
 use Rattle.plan_spec.specs.Segment.{segment}
 use Rattle.plan_wire.specs.Reading.{Read, Reader, json, form, range, bind, made, some_or, integer, whole, elements, object}
-use Rattle.plan_wire.specs.Documents.{Document, Certificate, path, remove, spot_of, robot_of, shape_of, frame_of, id_of, obstacle_of, obstacles_of, query_of, queries_of, edit_of, edits_of, lane_of, lanes_of, round_of, rounds_of, gcd, lowest, point_at, point_of, segment_of, certificate_of, task_of, value_of, document_of}
+use Rattle.plan_wire.specs.Documents.{path, remove, spot_of, robot_of, shape_of, frame_of, id_of, obstacle_of, obstacles_of, query_of, queries_of, edit_of, edits_of, lanes_of, round_of, gcd, lowest, point_at, point_of, segment_of, certificate_of, task_of, value_of, document_of}
 use Rattle.plan_wire.specs.declared.documents.Want.{Want}
 use Rattle.plan_wire.specs.declared.documents.Want.TheVariants.{Plan, Session, Check}
 

@@ -1,2 +1,4 @@
 mod documents;
+mod faults;
 mod streams;
+mod values;
