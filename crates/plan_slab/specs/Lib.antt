@@ -11,3 +11,8 @@ pub mod Heights
 pub mod Seen
 pub mod SlabsSeen
 pub mod FreeLots
+pub mod Bars
+pub mod LineMarks
+pub mod RisingValues
+pub mod Rungs
+pub mod Sweeps

@@ -1,10 +1,19 @@
 //! Event lines, slabs and regions of what the pieces of the boundary leave.
 #![tactic(auto)]
 
+mod bar;
+mod fault;
 mod feet;
 mod free;
 pub mod laws;
+mod level;
+mod lines;
 mod lot;
+mod marks;
 mod near;
 mod numbers;
+mod rising;
+mod rungs;
+mod spans;
 mod strand;
+mod sweep;

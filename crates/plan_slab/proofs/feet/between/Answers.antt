@@ -1,10 +1,9 @@
 -- The weight of the line is taken out of the two points.
-use Rattle.std.proofs.Common.{rules, ◌≡◌, ◌≤◌, ◌*◌, ◌^◌, ℤ, pos, ◌+ℤ◌, ◌*ℤ◌, ◌≤ℤ◌, ap, ap₂, ◌∙◌, sym, subst, arith}
-use Rattle.plan_exact.specs.Vectors.{Vector}
+use Rattle.std.proofs.Common.{rules, ◌≡◌, ◌^◌, pos, ◌+ℤ◌, ◌*ℤ◌, ap₂, ◌∙◌, sym, subst}
 use Rattle.plan_spec.specs.Vector.{Same}
 use Rattle.plan_spec.specs.Regions.{halfway}
 use Rattle.plan_grid.specs.Bounds.{IsBounded}
-use Rattle.plan_grid.specs.Fraction.{Fraction, point_at}
+use Rattle.plan_grid.specs.Fraction.{point_at}
 use Rattle.plan_slab.proofs.Bounded.{on_line_by, between_same, between_bounded}
 use Rattle.plan_slab.proofs.feet.between.Goals as goal
 use Rattle.plan_slab.proofs.feet.between.Goals.{After-times-3}

@@ -1,5 +1,5 @@
 -- The sums are the point halfway.
-use Rattle.std.proofs.Common.{rules, ◌≡◌, ◌≤◌, ◌*◌, ◌^◌, ℤ, pos, ◌+ℤ◌, ◌*ℤ◌, ap, ap₂, ◌∙◌, sym, subst, arith}
+use Rattle.std.proofs.Common.{rules, ◌≡◌, ◌*◌, ◌^◌, ap, sym, subst, arith}
 use Rattle.std.specs.Int.RustNames.{unsigned_abs}
 use Rattle.plan_exact.specs.Vectors.{Vector}
 use Rattle.plan_exact.proofs.Sizes.{product_at_most}

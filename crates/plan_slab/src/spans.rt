@@ -1,0 +1,38 @@
+ghost use Rattle.std.specs.Prelude.{◌≡◌, List, All, IfOk, map};
+ghost use Rattle.plan_spec.specs.Regions.{mediant};
+ghost use Rattle.plan_slab.specs.declared.rungs.Rung as spec;
+ghost use Rattle.plan_slab.specs.EventLines.{IsLine};
+ghost use Rattle.plan_slab.specs.Heights.{IsOver};
+ghost use Rattle.plan_slab.specs.Rungs.{AreFirstOf};
+ghost use Rattle.plan_slab.specs.Seen.{line_seen};
+
+use crate::bar::Bar;
+use crate::feet::mediant_of;
+use crate::rungs::{Rung, rungs_at};
+use crate::strand::Strand;
+use plan_grid::Ratio;
+use std::alloc::{AllocError, Global};
+
+/// The spans of the slab between two lines, from below, where the bars are those that go across.
+pub fn spans_between(
+    alloc: Global,
+    bars: &[Bar],
+    left: Ratio,
+    right: Ratio,
+) -> Result<Vec<Strand>, AllocError>
+    requires left { IsLine left }
+    requires right { IsLine right }
+    requires over { All (λ b. IsOver b.strand (mediant (line_seen left) (line_seen right))) bars.now }
+    ensures { IfOk result (λ v. (gs : List spec.Rung) × AreFirstOf (mediant (line_seen left) (line_seen right)) bars.now gs × (v.items ≡ map (λ g. g.strand) gs)) }
+{
+    let x = mediant_of(left, right);
+    let rungs = rungs_at(alloc, bars, x)?;
+    strands_of(alloc, &rungs)
+}
+
+// The strands of rungs.
+fn strands_of(alloc: Global, rungs: &[Rung]) -> Result<Vec<Strand>, AllocError>
+    ensures { IfOk result (λ v. v.items ≡ map (λ g. g.strand) rungs.now) }
+{
+    rungs.iter().map(|rung: &Rung| rung.strand).collect(alloc)
+}
