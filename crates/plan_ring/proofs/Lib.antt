@@ -12,5 +12,6 @@ pub mod Exposed
 pub mod SideTight
 pub mod Tight
 pub mod Component
+pub mod ByPosition
 pub mod Reach
 pub mod OneKind

@@ -1,5 +1,6 @@
 -- Of two clear points exactly one kind of answer exists: a path along a walk between their regions, or the ring of the component of the first.
-use Rattle.std.proofs.Common.{◌⊎◌, inl, inr, ℕ, List, length}
+use Rattle.std.proofs.Common.{◌⊎◌, inl, inr, ℕ, List, length, arith}
+use Rattle.plan_exact.proofs.Laws.{linear}
 use Rattle.plan_spec.specs.Vector.{Vector, IsPoint}
 use Rattle.plan_spec.specs.Frame.{Frame}
 use Rattle.plan_spec.specs.Neighbours.{neighbours, AreNeighbours}
@@ -13,10 +14,11 @@ use Rattle.plan_check.proofs.ChainFaults.{passed, blocks}
 use Rattle.plan_cross.proofs.ParityLaw.Route.{no_clear_polyline}
 use Rattle.plan_map.proofs.Path.Walk.{path_clear}
 use Rattle.plan_slab.specs.Decomposition.{IsDecomposition, IsFloorOf}
-use Rattle.plan_slab.proofs.Decomposition.{decomposition, clear_of}
+use Rattle.plan_slab.proofs.Decomposition.{decomposition, clear_of, not_touched}
 use Rattle.plan_slab.proofs.Pieces.{has_pieces}
 use Rattle.plan_slab.proofs.Sorted.Exist.{slabs_exist, regions_exist}
-use Rattle.plan_ring.specs.Laws.{OneKindOfAnswer, HasPath, HasChain}
+use Rattle.plan_ring.specs.Laws.{CanonicalChainIsRight, OneKindOfAnswer, HasPath, HasChain}
+use Rattle.plan_ring.proofs.ByPosition.{accepted_alike}
 use Rattle.plan_ring.proofs.Component.{are_regions, joined_in, ring_points, ring_accepted}
 use Rattle.plan_ring.proofs.Reach.{joined_or_not, component}
 
@@ -36,6 +38,25 @@ module _ (scene : Scene) {sums : List (List Vector)} {room : Frame} {σ : Slabs}
       let (m, is) = d.covers s hs (clear_of sums room s (λ t. cs ((floor.touches s hs).1 t))) in
       let (n, it) = d.covers g hg (clear_of sums room g (λ t. cg ((floor.touches g hg).1 t))) in
       one_or_the_other m n is it
+
+pub canonical_chain : CanonicalChainIsRight
+canonical_chain scene sums room pieces σ found floor has regions s g chain hs hg points c =
+    let d = decomposition has regions in
+    let m = c.from in
+    let low : IsPoint room.low = omega (arith, linear, floor.floor.spots.low) in
+    let high : IsPoint room.high = omega (arith, linear, floor.floor.spots.high) in
+    let ring_ok = ring_accepted d m c.component c.starts.is_region c.is_component s g c.to hs hg c.ends.is_region c.starts.holds c.ends.holds c.apart in
+    let accepted = accepted_alike sums room low high chain (ring σ found c.component) s g hs hg points (ring_points d m c.component c.starts.is_region c.is_component) c.is_ring ring_ok in
+    let b = blocks sums room s g chain scene floor.touches hs hg (passed sums room s g chain points accepted) in (
+      accepted,
+      record {
+        start = λ t. not_touched sums room s (d.clear m s c.starts.is_region hs c.starts.holds) ((floor.touches s hs).0 t);
+        goal = λ t. not_touched sums room g (d.clear c.to g c.ends.is_region hg c.ends.holds) ((floor.touches g hg).0 t);
+        blocks = b.blocks;
+        all_cross = b.crossed;
+        none_clear = no_clear_polyline scene s g chain hs hg b.blocks;
+      },
+    )
 
 pub one_kind : OneKindOfAnswer
 one_kind scene sums room pieces floor bound s g hs hg cs cg =

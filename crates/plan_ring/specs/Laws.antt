@@ -2,6 +2,7 @@
 use Rattle.std.specs.Prelude.{◌⊎◌, ℕ, List, All}
 use Rattle.plan_spec.specs.Vector.{Vector, IsPoint}
 use Rattle.plan_spec.specs.Segment.{Segment, HasPoints}
+use Rattle.plan_spec.specs.Answers.{IsRightChain, IsCanonicalChain}
 use Rattle.plan_spec.specs.Chain.{Blocks}
 use Rattle.plan_spec.specs.Frame.{Frame}
 use Rattle.plan_spec.specs.Neighbours.{AreNeighbours}
@@ -22,6 +23,12 @@ RingIsAccepted =
     (sums : List (List Vector)) (room : Frame) (pieces : List Piece) (σ : Slabs) (found : List Lot) → AreSlabsOf sums room pieces σ → AreRegions sums room σ found
     → (s g : Vector) (m n : ℕ) (ns : List ℕ) → IsPoint s → IsPoint g → IsIn σ found s m → IsIn σ found g n → IsComponent (AreNeighbours σ found) m ns → ¬ (AreJoined (AreNeighbours σ found) m n)
     → All HasPoints (ring σ found ns) × IsAccepted (IsTight sums room) s g (ring σ found ns)
+
+-- so each chain that is given, by position such a ring, is accepted and right
+abbrev pub CanonicalChainIsRight : Type 0
+CanonicalChainIsRight =
+    (scene : Scene) (sums : List (List Vector)) (room : Frame) (pieces : List Piece) (σ : Slabs) (found : List Lot) → IsFloorOf scene sums room → AreSlabsOf sums room pieces σ → AreRegions sums room σ found
+    → (s g : Vector) (chain : List Segment) → IsPoint s → IsPoint g → All HasPoints chain → IsCanonicalChain σ found s g chain → IsAccepted (IsTight sums room) s g chain × IsRightChain scene s g chain
 
 -- a clear polyline leads from s to g
 abbrev pub HasPath : Scene → Vector → Vector → Type 0
