@@ -15,7 +15,7 @@ row_at items rows k r ys within e f = f ∙ ap items e ∙ sym (get_or-map items
 pub element_at : {X : Type 0} (xs : List X) (k : ℕ) (x d : X) → k < length xs → x ≡ get_or xs k x → x ≡ get_or xs k d
 element_at xs k x d within e = e ∙ get_or_default xs k x d within
 
-rows_at : (ls : List Fraction) (rows : List (List Fraction)) (k : ℕ) (l : Fraction) → k < length ls → k < length rows → get_or (rows_seen ls rows) k [] ≡ marks_seen (get_or ls k l) (get_or rows k [])
+pub rows_at : (ls : List Fraction) (rows : List (List Fraction)) (k : ℕ) (l : Fraction) → k < length ls → k < length rows → get_or (rows_seen ls rows) k [] ≡ marks_seen (get_or ls k l) (get_or rows k [])
 rows_at [] rows k l here there = absurd (omega arith)
 rows_at (x ∷ ls) [] k l here there = absurd (omega arith)
 rows_at (x ∷ ls) (ms ∷ rows) zero l here there = refl

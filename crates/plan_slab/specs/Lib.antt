@@ -16,3 +16,5 @@ pub mod LineMarks
 pub mod RisingValues
 pub mod Rungs
 pub mod Sweeps
+pub mod LotKeys
+pub mod Subdivision

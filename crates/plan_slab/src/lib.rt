@@ -14,6 +14,11 @@ mod near;
 mod numbers;
 mod rising;
 mod rungs;
+mod slabs;
 mod spans;
 mod strand;
 mod sweep;
+
+pub use lot::Lot;
+pub use slabs::Slabs;
+pub use strand::Strand;

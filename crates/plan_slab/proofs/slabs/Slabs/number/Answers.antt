@@ -1,0 +1,21 @@
+-- The first lot of no lesser key is the lot, or none is.
+use Rattle.std.proofs.Common.{◌≡◌, length, get_or, ap, ◌∙◌, subst, arith}
+use Rattle.std.proofs.lemmas.List.{get_or_default}
+use Rattle.plan_slab.specs.Subdivision.{IsSubdivision}
+use Rattle.plan_slab.proofs.LotNumbers.{no_number}
+use Rattle.plan_slab.proofs.slabs.Slabs.number.Goals as goal
+use Rattle.plan_slab.proofs.slabs.Slabs.number.Goals.{else-at-len-via-then-at-len+else-is, else-at-len-via-else-at-len}
+
+pub returns : goal.returns
+returns c =
+    let s = c.args.self.now in
+    let h : IsSubdivision s = subst IsSubdivision c.self.view_is c.self.invariant in
+    no_number s h c.args.lot c.first_from-at.result (rw c.key.ensures at c.first_from-at.ensures) (λ less e. elim c.else-at-len.branch [
+      | else-at-len-via-then-at-len+else-is w ↦ (
+          let lots = ap (λ v. v.lots) c.self.view_is in
+          let f : w.index.result.now ≡ c.args.lot = w.index.ensures ∙ ap (λ xs. get_or xs c.first_from-at.result w.index.result.now) lots ∙ get_or_default s.lots c.first_from-at.result w.index.result.now c.args.lot less ∙ e in
+          let t = w.is.ensures.1 f in
+          cc
+          )
+      | else-at-len-via-else-at-len w ↦ absurd (let lots = ap (λ v. length v.lots) c.self.view_is in omega (arith, less, w.if-at-len.false, c.len.ensures, lots))
+    ])
