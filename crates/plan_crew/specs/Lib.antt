@@ -1,0 +1,4 @@
+pub mod Edits
+pub mod Lane
+pub mod Numbers
+pub mod Round

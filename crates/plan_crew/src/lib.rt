@@ -1,0 +1,16 @@
+//! Rounds of work: an editor publishes entries one after another, while lanes of questions are
+//! answered beside it, each for entries that were published.
+#![tactic(auto)]
+
+mod ends;
+mod job;
+mod lane;
+mod no_memory;
+
+pub use ends::{EditEnd, RoundEnd, Said};
+pub use job::{Job, Outcome};
+pub use lane::{MOST_QUESTIONS, answer_lane};
+pub use no_memory::NoMemory;
+
+#[cfg(test)]
+mod tests;

@@ -1,0 +1,17 @@
+use std::alloc::AllocError;
+
+/// There was no memory.
+#[derive(Clone, Copy, Debug, PartialEq, Eq)]
+pub struct NoMemory;
+
+impl From<AllocError> for NoMemory {
+    fn from(_: AllocError) -> NoMemory {
+        NoMemory
+    }
+}
+
+impl From<plan_shelf::NoMemory> for NoMemory {
+    fn from(_: plan_shelf::NoMemory) -> NoMemory {
+        NoMemory
+    }
+}
