@@ -8,7 +8,8 @@ use Rattle.plan_grid.specs.Fraction.{SameValue}
 use Rattle.plan_slab.specs.declared.bar.Bar.{Bar}
 use Rattle.plan_slab.specs.declared.rungs.Rung.{Rung}
 use Rattle.plan_slab.specs.Heights.{IsLevel}
-use Rattle.plan_slab.specs.Rungs.{IsRungOf, AreLeastOf, AreFirstOf}
+use Rattle.plan_slab.specs.Rungs.{level_at, IsRungOf, AreLeastOf, AreFirstOf}
+use Rattle.plan_slab.specs.Seen.{strand_seen}
 use Rattle.plan_slab.proofs.XValues.{order_nat, all_of_each}
 
 pub record RungsSoFar (m : Vector) (bars : List Bar) (i : ℕ) (gs : List Rung) : Type 0 where
@@ -34,7 +35,7 @@ first_of m bars i gs hs e h l = record {
   all = λ k d within. found (get_or bars k d) (h.all k d (omega (arith, within, e)));
 }
   where
-    found : (b : Bar) → Any (λ g. IsRungOf m g b) gs → Any (λ h. (h.number ≤ b.number) × ((g : Rung) → IsRungOf m g b → SameValue h.level g.level)) hs
+    found : (b : Bar) → Any (λ g. IsRungOf m g b) gs → Any (λ h. (h.number ≤ b.number) × SameValue h.level (level_at m (strand_seen b.strand))) hs
     found b (k, g, within, is, rung) =
         let (j, h, below, at, (upto, same)) = subst (λ g. Any (λ h. (h.number ≤ g.number) × SameValue h.level g.level) hs) is (l.all k g within) in
-        (j, h, below, at, (omega (arith, upto, rung.number), λ g2 rung2. subst (SameValue h.level) (rung.level ∙ sym rung2.level) same))
+        (j, h, below, at, (omega (arith, upto, rung.number), subst (SameValue h.level) rung.level same))

@@ -4,7 +4,7 @@ use Rattle.std.specs.List.{AllZip, flat_map}
 use Rattle.std.proofs.lemmas.List.Elements.{All-append}
 use Rattle.std.proofs.lemmas.Grind.{flat_map-append}
 use Rattle.std.proofs.Math.Seq.{take-suc, take-length}
-use Rattle.plan_plane.proofs.Lists.{zip_push}
+use Rattle.plan_plane.proofs.Lists.{zip_push, all_unflat}
 use Rattle.plan_grid.specs.Fraction.{Fraction}
 use Rattle.plan_slab.specs.declared.bar.Bar.{Bar}
 use Rattle.plan_slab.specs.Heights.{IsHeight}
@@ -39,6 +39,7 @@ pub heights_at : (l : Fraction) (bars : List Bar) (i : ℕ) (xs ys : List Fracti
 heights_at l bars i xs ys e h r = record {
   found = h.found;
   each = subst (λ bs. AllZip (AreHeightsOf l) bs h.found) (subst (λ j. take j bars ≡ bars) (sym e) (take-length bars)) h.each;
+  bounded = all_unflat IsHeight (λ fs. fs) h.found (subst (All IsHeight) h.are h.heights);
   heights = all_of_each IsHeight xs ys r.each h.heights;
   rising = subst (λ zs. IsRisingOf zs ys) h.are r;
 }

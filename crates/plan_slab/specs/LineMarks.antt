@@ -30,5 +30,6 @@ pub data AreHeightsOf (l : Fraction) (b : Bar) : List Fraction → Type 0 where
 pub record AreHeightsAt (l : Fraction) (bars : List Bar) (ms : List Fraction) : Type 0 where
   pub found : List (List Fraction)
   pub each : AllZip (AreHeightsOf l) bars found
+  pub bounded : All (All IsHeight) found
   pub heights : All IsHeight ms
   pub rising : IsRisingOf (flat_map (λ fs. fs) found) ms

@@ -1,11 +1,12 @@
 -- What a sweep from left to right knows at a line.
-use Rattle.std.specs.Prelude.{◌⊎◌, ℕ, ◌<◌, ◌≤◌, List, length, get_or, All, Contains}
+use Rattle.std.specs.Prelude.{◌≡◌, ◌⊎◌, ℕ, ◌<◌, ◌≤◌, List, length, get_or, All, Any, Contains}
 use Rattle.plan_spec.specs.Vector.{Vector, LeX}
 use Rattle.plan_spec.specs.Frame.{Frame}
 use Rattle.plan_spec.specs.Pieces.{Piece}
-use Rattle.plan_spec.specs.Slabs.{Slabs, AreSlabs, size}
+use Rattle.plan_spec.specs.Slabs.{piece_at, Reaches, Slabs, AreSlabs, size}
 use Rattle.plan_grid.specs.Fraction.{Fraction}
 use Rattle.plan_slab.specs.declared.bar.Bar.{Bar}
+use Rattle.plan_slab.specs.Bars.{IsBar}
 use Rattle.plan_slab.specs.Seen.{line_seen}
 
 -- the piece begins on the line or on its left
@@ -35,3 +36,8 @@ pub record AreKept (r : Fraction) (before after : List Bar) : Type 0 where
 -- each slabs of the pieces are too many
 abbrev pub AreTooMany : List (List Vector) → Frame → List Piece → Type 0
 AreTooMany sums room pieces = (σ : Slabs) → AreSlabs sums room pieces σ → 131072 < size σ
+
+-- exactly the pieces that begin by the line l and last to the line r, on their edges
+pub record AreAcross (sums : List (List Vector)) (room : Frame) (pieces : List Piece) (l r : Fraction) (bars : List Bar) : Type 0 where
+  pub each : All (λ b. IsBar sums room pieces b × BeginsBy l b × LastsTo r b) bars
+  pub every : (n : ℕ) → n < length pieces → Reaches (line_seen l) (line_seen r) (piece_at pieces n) → Any (λ b. b.number ≡ n) bars

@@ -1,10 +1,15 @@
 ghost use Rattle.std.specs.Prelude.{◌≡◌, pos, ◌≤ℤ◌, ◌≤◌, ◌++◌, All, IfOk, List, unsigned_abs};
-ghost use Rattle.plan_spec.specs.Vector.{Same, SameX, turn};
+ghost use Rattle.plan_spec.specs.Frame.{Frame};
+ghost use Rattle.plan_spec.specs.Slabs.{AreMarks};
+ghost use Rattle.plan_spec.specs.Vector.{Vector, Same, SameX, turn};
+ghost use Rattle.plan_spec.specs.Pieces.{Piece, IsBoundaryOf};
+ghost use Rattle.plan_plane.proofs.Boundary.Floor.{IsFloor};
+ghost use Rattle.plan_slab.specs.Sweeps.{AreAcross};
 ghost use Rattle.plan_grid.specs.Fraction.{Fraction, IsRatio, point_at};
 ghost use Rattle.plan_slab.specs.EventLines.{IsLine};
 ghost use Rattle.plan_slab.specs.Heights.{IsHeight, IsOver};
 ghost use Rattle.plan_slab.specs.LineMarks.{Meets, IsYOf, AreHeightsOf, AreHeightsAt};
-ghost use Rattle.plan_slab.specs.Seen.{line_seen, strand_seen};
+ghost use Rattle.plan_slab.specs.Seen.{line_seen, marks_seen, strand_seen};
 
 use crate::bar::{Bar, is_upright};
 use crate::rising::make_rising;
@@ -17,7 +22,9 @@ use std::alloc::{AllocError, Global};
 pub fn marks_at(alloc: Global, bars: &[Bar], line: Ratio) -> Result<Vec<Ratio>, AllocError>
     requires line { IsLine line }
     requires bars { All (Meets line) bars.now }
-    ensures { IfOk result (λ v. AreHeightsAt line bars.now v.items) }
+    ensures marks { (sums : List (List Vector)) (room : Frame) (pieces : List Piece) → IsFloor sums room → IsBoundaryOf sums room pieces
+        → AreAcross sums room pieces line line bars.now → IfOk result (λ v. AreMarks pieces (line_seen line) (marks_seen line v.items)) }
+    ensures heights { IfOk result (λ v. AreHeightsAt line bars.now v.items) }
 {
     let mut marks = Vec::new(alloc);
     for bar in bars {
