@@ -1,3 +1,4 @@
 mod Answering
+mod Editing
 mod Prefixes
 mod Worked

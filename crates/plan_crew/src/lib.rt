@@ -2,6 +2,7 @@
 //! answered beside it, each for entries that were published.
 #![tactic(auto)]
 
+mod edits;
 mod ends;
 mod job;
 mod lane;
