@@ -1,5 +1,5 @@
 -- One more answer of a lane: it is that of the last entry of a list that has grown.
-use Rattle.std.proofs.Common.{◌≡◌, ℕ, zero, suc, ◌+◌, ◌-◌, ◌<◌, ◌≤◌, List, [], ◌∷◌, ◌++◌, length, map, take, get_or, Some, slice_get, refl, sym, ap, ◌∙◌, arith, add-one}
+use Rattle.std.proofs.Common.{◌≡◌, ℕ, zero, suc, ◌+◌, ◌-◌, ◌<◌, ◌≤◌, List, [], ◌∷◌, ◌++◌, length, map, take, get_or, refl, sym, ap, arith, add-one}
 use mathlib.Core.List.{IsPrefix}
 use Rattle.plan_crew.specs.Lane.{Says, Answers}
 use Rattle.plan_crew.proofs.Prefixes.{prefix_get, prefix_length, get_within}

@@ -1,7 +1,7 @@
 -- Two rounds by hand: entries and answers are numbers, an entry's version is the entry, a change of 0 is refused, and any other leads to the next number.
-use Rattle.std.proofs.Common.{◌≡◌, ℕ, zero, suc, ◌+◌, List, [], ◌∷◌, Ok, Err, refl, arith}
+use Rattle.std.proofs.Common.{ℕ, ◌+◌, [], ◌∷◌, Ok, Err, refl, arith}
 use Rattle.plan_crew.specs.Numbers.{counted}
-use Rattle.plan_crew.specs.Lane.{Says, Replies}
+use Rattle.plan_crew.specs.Lane.{Replies}
 use Rattle.plan_crew.specs.Round.{IsRound}
 
 abbrev version : ℕ → ℕ

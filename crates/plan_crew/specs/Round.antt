@@ -1,5 +1,5 @@
 -- A lawful round, as lists of entries, changes, ends, questions and answers.
-use Rattle.std.specs.Prelude.{◌≡◌, ℕ, ◌-◌, List, [], ◌∷◌, ◌++◌, Result, Some, length, slice_get}
+use Rattle.std.specs.Prelude.{◌≡◌, ℕ, ◌-◌, List, ◌∷◌, ◌++◌, Result, Some, length, slice_get}
 use Rattle.std.specs.List.{AllZip}
 use Rattle.plan_crew.specs.declared.job.Outcome.{Outcome}
 use Rattle.plan_crew.specs.Edits.{ends_of, taken_of, last_of}

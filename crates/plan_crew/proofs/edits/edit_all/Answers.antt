@@ -1,5 +1,5 @@
 -- Each turn makes one change, and there is room for one less.
-use Rattle.std.proofs.Common.{rules, ◌≡◌, ◌+◌, ◌-◌, ◌≤◌, length, take, [], ◌∷◌, ◌++◌, ◌∙◌, arith}
+use Rattle.std.proofs.Common.{rules, ◌≡◌, ◌+◌, take, [], ◌∷◌, ◌++◌, ◌∙◌, arith}
 use Rattle.plan_crew.proofs.Prefixes.{prefix_trans}
 use Rattle.plan_crew.proofs.Answering.{take_next, map_next}
 use Rattle.plan_crew.proofs.Editing.{one_edit_more, edit_length, edit_version}

@@ -1,6 +1,5 @@
 -- What one change makes of the last entry, in each of its three ends.
-use Rattle.std.proofs.Common.{rules, ◌≡◌, ◌+◌, length, slice_get, Some, ◌++◌, ◌∷◌, [], sym, ap, ◌∙◌, subst}
-use mathlib.Core.List.{IsPrefix}
+use Rattle.std.proofs.Common.{rules, ◌≡◌, ◌+◌, length, slice_get, Some, ◌++◌, ◌∷◌, [], sym, ap, ◌∙◌}
 use Rattle.plan_crew.proofs.Prefixes.{prefix_self}
 use Rattle.plan_crew.proofs.Editing.{edit_taken, edit_refused}
 use Rattle.plan_crew.proofs.edits.edit_one.Goals as goal

@@ -1,5 +1,5 @@
 -- Each turn adds the answer of the last entry of the list so far.
-use Rattle.std.proofs.Common.{rules, subst, List, ◌≡◌, ◌+◌, ◌≤◌, ◌-◌, length, take, map, [], ◌∷◌, ◌++◌, refl, ap, ◌∙◌, arith}
+use Rattle.std.proofs.Common.{rules, subst, List, ◌≡◌, ◌+◌, ◌≤◌, ◌-◌, length, take, map, [], ◌∷◌, ◌++◌, refl, ◌∙◌, arith}
 use Rattle.plan_crew.specs.Lane.{Answers}
 use Rattle.plan_crew.proofs.Prefixes.{prefix_self, prefix_trans, prefix_length}
 use Rattle.plan_crew.proofs.Answering.{one_more, take_next, take_whole, map_next}
