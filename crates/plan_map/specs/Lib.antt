@@ -1,3 +1,4 @@
 pub mod Distances
 pub mod Search
+pub mod Row
 pub mod Laws

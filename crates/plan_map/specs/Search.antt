@@ -1,6 +1,7 @@
 -- A search from a goal: what is seen, in order, of which all before the head have their neighbours seen, and the distances.
-use Rattle.std.specs.Prelude.{◌≡◌, ℕ, suc, ◌≤◌, ◌<◌, List, [], ◌∷◌, ◌++◌, length, get_or, Option, Some, None, All, AllPairs, Contains}
+use Rattle.std.specs.Prelude.{◌≡◌, ℕ, suc, ◌-◌, ◌≤◌, ◌<◌, List, [], ◌∷◌, ◌++◌, length, get_or, Option, Some, None, ◌↔◌, AllPairs, Contains}
 use lib.ListN.{set}
+use Rattle.std.specs.List.{range_with_len}
 use Rattle.plan_map.specs.Distances.{IsWithin, Nearer}
 
 -- what is seen, and the distance of each that is
@@ -49,16 +50,15 @@ pub record IsSearch (next : ℕ → ℕ → Type 0) (count goal : ℕ) (seen : L
   pub near : (j d e : ℕ) → head < length seen → j < length seen → at dist (nth seen head) ≡ Some d → at dist (nth seen j) ≡ Some e → e ≤ suc d
   pub around : (i n d : ℕ) → i < head → i < length seen → next n (nth seen i) → at dist (nth seen i) ≡ Some d → IsWithin (at dist) n (suc d)
 
--- ---- through lists of neighbours
--- m is in the row of n
-abbrev pub in_row : List (List ℕ) → ℕ → ℕ → Type 0
-in_row rows m n = Contains (get_or rows n []) m
+-- ---- neighbours by number
+-- the numbers from a to below b
+abbrev pub numbers : ℕ → ℕ → List ℕ
+numbers a b = range_with_len a (b - a)
 
--- rising rows of numbers below how many there are, each number in the rows of those in its own
-pub record AreRows (rows : List (List ℕ)) : Type 0 where
-  pub within : (m n : ℕ) → in_row rows m n → m < length rows
-  pub rising : All (AllPairs (λ m n. m < n)) rows
-  pub both_ways : (m n : ℕ) → in_row rows m n → in_row rows n m
+-- the row of r: its neighbours, rising
+pub record IsRow (next : ℕ → ℕ → Type 0) (r : ℕ) (row : List ℕ) : Type 0 where
+  pub exact : (n : ℕ) → Contains row n ↔ next n r
+  pub rising : AllPairs (λ m n. m < n) row
 
 -- the first of the numbers that has P
 pub record IsFirstOf (P : ℕ → Type 0) (ns : List ℕ) (n : ℕ) : Type 0 where
@@ -67,3 +67,8 @@ pub record IsFirstOf (P : ℕ → Type 0) (ns : List ℕ) (n : ℕ) : Type 0 whe
   pub is : get_or ns place 0 ≡ n
   pub has : P n
   pub earlier : (j : ℕ) → j < place → ¬ (P (get_or ns j 0))
+
+-- the numbers below count that have a distance, rising
+pub record AreMeasured (dist : List (Option ℕ)) (count : ℕ) (ns : List ℕ) : Type 0 where
+  pub exact : (n : ℕ) → Contains ns n ↔ ((n < count) × Measured dist n)
+  pub rising : AllPairs (λ m n. m < n) ns

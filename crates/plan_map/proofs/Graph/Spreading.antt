@@ -1,11 +1,11 @@
 -- When all neighbours of the region at the head are visited, the search goes on.
 use Rattle.std.proofs.Common.{◌≡◌, ◌≢◌, ℕ, suc, ◌+◌, ◌<◌, replicate, List, [], ◌∷◌, ◌++◌, length, get_or, set, Option, Some, None, All, refl, sym, ap, ◌∙◌, subst, arith, get_or-set_other, get_or-set_same, Contains}
 use Rattle.std.proofs.lemmas.List.{get_or_append_left, length_push, get_or_default}
-use Rattle.std.proofs.lemmas.List.Elements.{All-head, All-tail, All-nil, All-cons, All-contains, All-contains_itself}
+use Rattle.std.proofs.lemmas.List.Elements.{All-head, All-tail, All-nil, All-cons, All-contains, Contains-get_or}
 use Rattle.plan_map.specs.Distances.{IsWithin}
-use Rattle.plan_map.specs.Search.{State, state, at, nth, visit, visits, IsSearch, in_row, AreRows}
-use Rattle.plan_map.proofs.Search.Distances.{same_some}
-use Rattle.plan_map.proofs.Search.Steps.{visited, known, advanced, bounded, begun}
+use Rattle.plan_map.specs.Search.{State, state, at, nth, visit, visits, IsSearch, IsRow}
+use Rattle.plan_map.proofs.Graph.Distances.{same_some}
+use Rattle.plan_map.proofs.Graph.Steps.{visited, known, advanced, bounded, begun}
 
 pub visits_append : (ms ns : List ℕ) (steps : ℕ) (s : State) → visits (ms ++ ns) steps s ≡ visits ns steps (visits ms steps s)
 visits_append [] ns steps s = refl
@@ -80,6 +80,9 @@ module _ {next : ℕ → ℕ → Type 0} {count goal head r : ℕ} {seen : List 
   steps : at dist r ≡ o
   steps = get_or_default dist r None o (omega (arith, s.below head here, s.size, region)) ∙ sym eo
 
+  pub region_below : r < count
+  region_below = omega (arith, s.below head here, region)
+
   pub steps_below : (d : ℕ) → o ≡ Some d → d < count
   steps_below d e = omega (arith, s.behind head d here (ap (at dist) region ∙ steps ∙ e), bounded s)
 
@@ -90,16 +93,15 @@ module _ {next : ℕ → ℕ → Type 0} {count goal head r : ℕ} {seen : List 
       let l : Some m.distance ≡ None = sym m.is_some ∙ ap (at dist) region ∙ steps ∙ e in
       cc
 
-pub goes_on : {rows : List (List ℕ)} {goal head r : ℕ} {seen seen' : List ℕ} {dist dist' : List (Option ℕ)} {o : Option ℕ} → AreRows rows → IsSearch (in_row rows) (length rows) goal seen head dist → head < length seen → r ≡ get_or seen head r → o ≡ get_or dist r o
-    → (d : ℕ) → o ≡ Some d → state seen' dist' ≡ visits (get_or rows r []) (d + 1) (state seen dist) → IsSearch (in_row rows) (length rows) goal seen' (head + 1) dist'
-goes_on {rows} {goal} {head} {r} {seen} {seen'} {dist} {dist'} are s here er eo d e became =
-    let row = get_or rows r [] in
-    let itself = All-contains_itself row in
-    let t = spread_on (in_row rows) (length rows) goal head r d row (state seen dist) (record { search = s; here = here; region = region s here er eo; steps = steps s here er eo ∙ e }) (λ k c within. are.within (get_or row k c) r (itself k c within)) itself (λ n m. m) in
+pub goes_on : {next : ℕ → ℕ → Type 0} {count goal head r : ℕ} {seen seen' row : List ℕ} {dist dist' : List (Option ℕ)} {o : Option ℕ} → IsSearch next count goal seen head dist → head < length seen → r ≡ get_or seen head r → o ≡ get_or dist r o
+    → (d : ℕ) → o ≡ Some d → IsRow next r row → ((n : ℕ) → next n r → n < count) → state seen' dist' ≡ visits row (d + 1) (state seen dist) → IsSearch next count goal seen' (head + 1) dist'
+goes_on {next} {count} {goal} {head} {r} {seen} {seen'} {row} {dist} {dist'} s here er eo d e is within became =
+    let near : All (λ n. next n r) row = λ k c less. (is.exact (get_or row k c)).0 (Contains-get_or row k c less) in
+    let t = spread_on next count goal head r d row (state seen dist) (record { search = s; here = here; region = region s here er eo; steps = steps s here er eo ∙ e }) (λ k c less. within (get_or row k c) (near k c less)) near (λ n h. (is.exact n).1 h) in
     let step : d + 1 ≡ suc d = omega arith in
     let after : state seen' dist' ≡ visits row (suc d) (state seen dist) = became ∙ ap (λ k. visits row k (state seen dist)) step in
-    let next : head + 1 ≡ suc head = omega arith in
-    subst (λ k. IsSearch (in_row rows) (length rows) goal seen' k dist') (sym next) (subst (λ st. IsSearch (in_row rows) (length rows) goal st.seen (suc head) st.dist) (sym after) t)
+    let one : head + 1 ≡ suc head = omega arith in
+    subst (λ k. IsSearch next count goal seen' k dist') (sym one) (subst (λ st. IsSearch next count goal st.seen (suc head) st.dist) (sym after) t)
 
 pub starts : {next : ℕ → ℕ → Type 0} {count goal : ℕ} {seen : List ℕ} {dist : List (Option ℕ)} → seen ≡ goal ∷ [] → dist ≡ replicate count None → goal < count → IsSearch next count goal seen 0 (set dist goal (Some 0))
 starts {next} {count} {goal} {seen} {dist} e f h = subst (λ s. IsSearch next count goal s 0 (set dist goal (Some 0))) (sym e) (subst (λ d. IsSearch next count goal (goal ∷ []) 0 (set d goal (Some 0))) (sym f) (begun next count goal h))

@@ -1,32 +1,30 @@
 -- The first of a rising row of neighbours whose distance is one less is the least, and there is one; steps to such ones make the first walk.
-use Rattle.std.proofs.Common.{◌≡◌, ℕ, suc, ◌<◌, ◌≤◌, List, [], ◌∷◌, ◌++◌, length, get_or, Option, Some, All, refl, sym, ◌∙◌, subst, arith}
+use Rattle.std.proofs.Common.{◌≡◌, ℕ, suc, ◌≤◌, List, [], ◌∷◌, ◌++◌, Option, Some, All, refl, sym, ◌∙◌, subst, arith}
 use Rattle.std.proofs.lemmas.List.{get_or_default, append-nil, append_assoc}
 use Rattle.std.proofs.lemmas.List.Elements.{All-contains}
 use Rattle.plan_spec.specs.Walks.{IsFirstWalk}
 use Rattle.plan_map.specs.Distances.{AreDistances, IsLeastStep, Descends, DescendsFrom}
-use Rattle.plan_map.specs.Search.{at, in_row, AreRows, IsFirstOf}
-use Rattle.plan_map.proofs.Search.FirstWalk.{first_is_least, first_walk}
+use Rattle.plan_map.specs.Search.{IsRow, IsFirstOf}
+use Rattle.plan_map.proofs.Graph.FirstWalk.{first_is_least, first_walk}
 
--- ---- one step, through rows
-pub step_taken : {rows : List (List ℕ)} (dist : List (Option ℕ)) → AreRows rows → (here left n : ℕ) → here < length rows → at dist here ≡ Some (suc left) → IsFirstOf (λ m. at dist m ≡ Some left) (get_or rows here []) n → IsLeastStep (in_row rows) (at dist) here n
-step_taken {rows} dist are here left n within from f = record {
-  left = left;
-  from = from;
-  neighbour = are.both_ways n here (f.place, f.within, get_or_default row f.place n 0 f.within ∙ f.is);
-  nearer = f.has;
-  least = λ m step near.
-      let c = are.both_ways here m step in
-      let l = first_is_least (λ m. at dist m ≡ Some left) row f.place (are.rising here [] within) (λ j d h p. f.earlier j h (subst (λ x. at dist x ≡ Some left) (get_or_default row j d 0 (omega (arith, f.within))) p)) m (c.0, m, c.1, c.2, (refl, near)) 0 f.within in
-      subst (λ x. x ≤ m) f.is l;
-}
-  where
-    row : List ℕ
-    row = get_or rows here []
+-- ---- one step
+module _ {next : ℕ → ℕ → Type 0} {here : ℕ} {row : List ℕ} (is : IsRow next here row) (both_ways : (m n : ℕ) → next m n → next n m) where
+  pub step_taken : (dist : ℕ → Option ℕ) (left n : ℕ) → dist here ≡ Some (suc left) → IsFirstOf (λ m. dist m ≡ Some left) row n → IsLeastStep next dist here n
+  step_taken dist left n from f = record {
+    left = left;
+    from = from;
+    neighbour = both_ways n here ((is.exact n).0 (f.place, f.within, get_or_default row f.place n 0 f.within ∙ f.is));
+    nearer = f.has;
+    least = λ m step near.
+        let c = (is.exact m).1 (both_ways here m step) in
+        let l = first_is_least (λ m. dist m ≡ Some left) row f.place is.rising (λ j d h p. f.earlier j h (subst (λ x. dist x ≡ Some left) (get_or_default row j d 0 (omega (arith, f.within))) p)) m (c.0, m, c.1, c.2, (refl, near)) 0 f.within in
+        subst (λ x. x ≤ m) f.is l;
+  }
 
-pub some_step : {rows : List (List ℕ)} {goal : ℕ} (dist : List (Option ℕ)) → AreRows rows → (here left : ℕ) → AreDistances (in_row rows) goal (at dist) → at dist here ≡ Some (suc left) → ¬ (All (λ m. ¬ (at dist m ≡ Some left)) (get_or rows here []))
-some_step {rows} dist are here left measured from none =
-    let n = measured.down here left from in
-    All-contains (λ m. ¬ (at dist m ≡ Some left)) (get_or rows here []) n.at none (are.both_ways here n.at n.neighbour) n.nearer
+  pub some_step : (dist : ℕ → Option ℕ) (left goal : ℕ) → AreDistances next goal dist → dist here ≡ Some (suc left) → ¬ (All (λ m. ¬ (dist m ≡ Some left)) row)
+  some_step dist left goal measured from none =
+      let n = measured.down here left from in
+      All-contains (λ m. ¬ (dist m ≡ Some left)) row n.at none ((is.exact n.at).1 (both_ways here n.at n.neighbour)) n.nearer
 
 -- ---- a way of steps
 -- what is taken so far, and whatever descends from here, descend from the start

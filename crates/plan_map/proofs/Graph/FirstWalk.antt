@@ -4,7 +4,7 @@ use Rattle.std.proofs.lemmas.Bool.{cases_eq, cases_lt}
 use Rattle.std.proofs.lemmas.List.{get_or_default}
 use Rattle.plan_spec.specs.Walks.{Leads, IsWalk, NotAfter, IsFirstWalk}
 use Rattle.plan_map.specs.Distances.{AreDistances, Descends}
-use Rattle.plan_map.proofs.Search.Distances.{same_some, no_shorter}
+use Rattle.plan_map.proofs.Graph.Distances.{same_some, no_shorter}
 
 pub descends_length : (next : ℕ → ℕ → Type 0) (dist : ℕ → Option ℕ) (r : ℕ) (ns : List ℕ) → Descends next dist r ns → dist r ≡ Some (length ns)
 descends_length next dist r [] e = e

@@ -9,7 +9,7 @@ use Rattle.std.specs.List.{list_any}
 use Rattle.std.proofs.lemmas.List.{get_or_append_left, get_or_push, length_push, length-set, length-replicate, get_or-replicate, get_or_past, get_or_default}
 use Rattle.plan_map.specs.Distances.{IsWithin, AreDistances}
 use Rattle.plan_map.specs.Search.{at, nth, IsSearch}
-use Rattle.plan_map.proofs.Search.Distances.{same_some}
+use Rattle.plan_map.proofs.Graph.Distances.{same_some}
 
 -- ---- the end
 pub finished : {next : ℕ → ℕ → Type 0} {count goal : ℕ} {seen : List ℕ} {head : ℕ} {dist : List (Option ℕ)} → IsSearch next count goal seen head dist → length seen ≤ head → AreDistances next goal (at dist)

@@ -1,0 +1,65 @@
+//! Distances from a goal, and the first of the shortest walks to it.
+
+ghost use Rattle.std.specs.Prelude.{◌≡◌, ◌<◌, ◌^◌, IfOk, MatchOption, length};
+ghost use Rattle.plan_spec.specs.Walks.{IsFirstWalk, AreJoined};
+ghost use Rattle.plan_map.specs.Distances.{AreDistances};
+ghost use Rattle.plan_map.specs.Search.{at};
+ghost use Rattle.plan_map.specs.Row.{in_row, AreRows};
+
+use crate::row::Row;
+use crate::search::unmeasured;
+use std::alloc::{AllocError, Global};
+
+/// The distance of each region from the goal, in steps, where a walk leads to it.
+pub fn distances(alloc: Global, rows: &[Row], goal: u32) -> Result<Vec<Option<u32>>, AllocError>
+    requires goal { goal < length rows.now }
+    requires few { length rows.now < 2 ^ 32 }
+    requires rows { AreRows rows.now }
+    ensures size { IfOk result (λ found. length found.items ≡ length rows.now) }
+    ensures value { IfOk result (λ found. AreDistances (in_row rows.now) goal (at found.items)) }
+{
+    let mut distances = unmeasured(alloc, rows.len())?;
+    distances[goal as usize] = Some(0);
+    let mut seen = vec![in alloc; goal]?;
+    let mut head = 0;
+    while head < seen.len() {
+        let region = seen[head];
+        if let Some(steps) = distances[region as usize] {
+            rows[region as usize].spread(&mut seen, &mut distances, steps + 1)?;
+        }
+        head += 1;
+    }
+    Ok(distances)
+}
+
+/// From the start always on to the least neighbour that is a step nearer to the goal: of the shortest walks the first;
+/// None exactly where no walk leads there.
+pub fn first_walk(
+    alloc: Global,
+    rows: &[Row],
+    distances: &[Option<u32>],
+    start: u32,
+    goal: u32,
+) -> Result<Option<Vec<u32>>, AllocError>
+    requires start { start < length rows.now }
+    requires rows { AreRows rows.now }
+    requires size { length distances.now ≡ length rows.now }
+    requires measured { AreDistances (in_row rows.now) goal (at distances.now) }
+    ensures { IfOk result (λ found. MatchOption found (¬ (AreJoined (in_row rows.now) start goal)) (λ taken. IsFirstWalk (in_row rows.now) start goal taken.items)) }
+{
+    let Some(steps) = distances[start as usize] else {
+        return Ok(None);
+    };
+    let mut taken = vec![in alloc; start]?;
+    let mut here = start;
+    let mut left = steps;
+    while left > 0 {
+        let Some(next) = rows[here as usize].first_nearer(distances, left - 1) else {
+            return Ok(None);
+        };
+        taken.push(next)?;
+        here = next;
+        left -= 1;
+    }
+    Ok(Some(taken))
+}
