@@ -14,30 +14,12 @@ use Rattle.plan_spec.specs.Polygon.{edges}
 use Rattle.plan_spec.specs.SimplePolygon.{InPolygon}
 use Rattle.plan_spec.specs.Frame.{Frame, OnOrBeyond}
 use Rattle.plan_spec.specs.Placement.{Leaves}
+use Rattle.plan_spec.specs.Room.{IsSpot, IsBox, room}
 use Rattle.plan_plane.proofs.Lists.{any_with}
 use Rattle.plan_plane.proofs.Polygon.Edges.{Ends, ends_of_edges, vertices_on}
 use Rattle.plan_plane.proofs.Segment.Between.{flip, right_of as right_of_point, right_of_is as right_of_point_is}
 use Rattle.plan_plane.proofs.Segment.Same.{on_same}
 use Rattle.plan_poly.proofs.EvenOdd.Box.{left_of_all, right_of_all, below_all, above_all}
-
-abbrev pub IsSpot : Vector → Type 0
-IsSpot p = p.w ≡ pos 1
-
--- the box of a list of spots: its corners have the least and the greatest coordinates, and some spot has each
-pub record IsBox (vs : List Vector) (box : Frame) : Type 0 where
-  pub spots : All IsSpot vs
-  pub left : All (λ v. box.low.x ≤ℤ v.x) vs
-  pub right : All (λ v. v.x ≤ℤ box.high.x) vs
-  pub below : All (λ v. box.low.y ≤ℤ v.y) vs
-  pub above : All (λ v. v.y ≤ℤ box.high.y) vs
-  pub leftmost : Any (λ v. v.x ≡ box.low.x) vs
-  pub rightmost : Any (λ v. v.x ≡ box.high.x) vs
-  pub lowest : Any (λ v. v.y ≡ box.low.y) vs
-  pub highest : Any (λ v. v.y ≡ box.high.y) vs
-
--- the frame, moved by the box
-abbrev pub room : Frame → Frame → Frame
-room box frame = record { low = spot (frame.low.x -ℤ box.low.x) (frame.low.y -ℤ box.low.y); high = spot (frame.high.x -ℤ box.high.x) (frame.high.y -ℤ box.high.y) }
 
 spot_weight : (n : ℤ) (v : Vector) → IsSpot v → n *ℤ v.w ≡ n
 spot_weight n v spot = ap (λ y. n *ℤ y) spot ∙ mul_one n

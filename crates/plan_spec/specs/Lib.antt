@@ -6,6 +6,8 @@ pub mod SimplePolygon
 pub mod Triangulation
 pub mod Frame
 pub mod Placement
+pub mod Room
+pub mod Sums
 pub mod Route
 pub mod Reply
 pub mod Chain

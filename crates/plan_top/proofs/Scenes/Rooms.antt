@@ -10,7 +10,7 @@ use Rattle.plan_grid.specs.Spot.{spot_seen, spots_seen, way, IsWithin}
 use Rattle.plan_grid.specs.Frame.{frame_seen}
 use Rattle.plan_convex.specs.Boxes.{IsBox}
 use Rattle.plan_top.specs.Scene.{IsRoom}
-use Rattle.plan_poly.proofs.Leaving as L
+use Rattle.plan_spec.specs.Room as L
 use Rattle.plan_poly.proofs.Leaving.{leaves}
 
 -- the box as the definitions see it

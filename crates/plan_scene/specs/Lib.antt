@@ -1,0 +1,5 @@
+pub mod Shape
+pub mod Scene
+pub mod Edits
+pub mod Built
+pub mod Laws
