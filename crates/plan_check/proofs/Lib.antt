@@ -9,3 +9,4 @@ mod Legs
 mod PathFaults
 pub mod ChainFaults
 mod Exclusion
+mod Scenes

@@ -13,11 +13,12 @@ ghost use Rattle.plan_check.specs.Touching.{IsToldBy, IsProperAndTight};
 ghost use Rattle.plan_check.specs.Verdict.{IsChainVerdict, BlocksWhereValid};
 
 use crate::fault::CheckFault;
+use crate::no_memory::NoMemory;
 use crate::room::are_beyond_one_side;
 use crate::sums::one_holds;
 use crate::verdict::Verdict;
 use plan_convex::Convex;
-use plan_cross::{Chain, NoMemory, Query, Segment, first_unclosed, parity};
+use plan_cross::{Chain, Query, Segment, first_unclosed, parity};
 use plan_grid::{Frame, MOST_COORDINATE};
 use std::alloc::Global;
 
@@ -37,15 +38,17 @@ pub fn check_chain(
     requires start { IsWithin MOST_COORDINATE query.start }
     requires goal { IsWithin MOST_COORDINATE query.goal }
     requires few { length chain.now < 2 ^ 32 }
+    ensures points { IfOk result (λ _. All HasPoints chain.now) }
     ensures verdict { IfOk result (IsChainVerdict (IsTight (sums_seen sums.now) (frame_seen room))
         (spot_seen query.start) (spot_seen query.goal) chain.now) }
     ensures blocks { (scene : Scene) → IsToldBy scene (sums_seen sums.now) (frame_seen room)
         → IfOk result (BlocksWhereValid scene (spot_seen query.start) (spot_seen query.goal) chain.now) }
 {
+    let unclosed = first_unclosed(alloc, chain)?;
     if let Some(fault) = first_unsound(sums, boxes, room, chain.segments.as_slice()) {
         return Ok(Verdict::Invalid(fault));
     }
-    if let Some(k) = first_unclosed(alloc, chain)? {
+    if let Some(k) = unclosed {
         return Ok(Verdict::Invalid(CheckFault::Unclosed(k)));
     }
     if !parity(chain.segments.as_slice(), query.start) {

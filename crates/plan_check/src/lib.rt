@@ -3,18 +3,20 @@
 #![tactic(auto)]
 
 mod boxes;
+mod certificate;
 mod chain;
 mod fault;
 pub mod laws;
+mod no_memory;
 mod path;
 mod room;
 mod sums;
 mod verdict;
 mod whole_box;
 
-pub use chain::check_chain;
+pub use certificate::check;
 pub use fault::CheckFault;
-pub use path::check_path;
+pub use no_memory::NoMemory;
 pub use verdict::Verdict;
 
 #[cfg(test)]

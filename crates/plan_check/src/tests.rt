@@ -2,9 +2,11 @@ ghost use Rattle.std.specs.Prelude.{◌≡◌, ◌<◌, ◌^◌, length, IfOk};
 ghost use Rattle.plan_grid.specs.Spot.{IsWithin};
 
 use crate::boxes::boxes_of;
-use crate::{CheckFault, Verdict, check_chain, check_path};
+use crate::chain::check_chain;
+use crate::path::check_path;
+use crate::{CheckFault, NoMemory, Verdict};
 use plan_convex::{Convex, sum};
-use plan_cross::{Chain, NoMemory, Polyline, Query, Segment};
+use plan_cross::{Chain, Polyline, Query, Segment};
 use plan_grid::{Frame, MOST_COORDINATE, Point, Spot};
 use std::alloc::Global;
 

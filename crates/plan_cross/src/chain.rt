@@ -1,5 +1,6 @@
 ghost use Rattle.std.specs.Prelude.{◌↔◌, ◌<◌, ◌^◌, length, map, All, IsTrue, IfOk, MatchOption};
 ghost use Rattle.plan_spec.specs.Vector.{IsPoint};
+ghost use Rattle.plan_spec.specs.Segment.{HasPoints};
 ghost use Rattle.plan_spec.specs.Chain.{IsClosed};
 ghost use Rattle.plan_spec.specs.Reply.{HasOddEnd, IsFirst};
 ghost use Rattle.plan_cross.specs.Segment.{segment_seen};
@@ -45,8 +46,9 @@ pub fn closed(alloc: Global, chain: &Chain) -> Result<bool, NoMemory>
 /// memory for the list of their ends.
 pub fn first_unclosed(alloc: Global, chain: &Chain) -> Result<Option<u32>, NoMemory>
     requires { length chain.now < 2 ^ 32 }
-    ensures { IfOk result (λ first. MatchOption first (IsClosed chain.now)
+    ensures first { IfOk result (λ first. MatchOption first (IsClosed chain.now)
         (IsFirst (HasOddEnd chain.now) (λ s. ¬ (HasOddEnd chain.now s)) chain.now)) }
+    ensures points { IfOk result (λ _. All HasPoints chain.now) }
 {
     let odd = odd_ends(alloc, &chain.segments)?;
     Ok(first_ending_in(&odd, &chain.segments))

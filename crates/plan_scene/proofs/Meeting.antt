@@ -37,7 +37,7 @@ meets_parts robot shape rs ts hr ht n p hp = (into, out)
         let c = b.4 in
         (c.0, c.1, held_by ht c.0 c.1 (a.0, a.1, a.2, a.3, c.2), held_by hr (minus c.0 p) (mul_pos c.1 hp) (b.0, b.1, b.2, b.3, c.3))
 
-any_zip : {A B : Type 0} (R : A → B → Type 0) (P : A → Type 0) (Q : B → Type 0) → ((a : A) (b : B) → R a b → P a ↔ Q b) → (xs : List A) (ys : List B) → AllZip R xs ys → Any P xs ↔ Any Q ys
+pub any_zip : {A B : Type 0} (R : A → B → Type 0) (P : A → Type 0) (Q : B → Type 0) → ((a : A) (b : B) → R a b → P a ↔ Q b) → (xs : List A) (ys : List B) → AllZip R xs ys → Any P xs ↔ Any Q ys
 any_zip R P Q alike [] [] h = (λ m. absurd (any_none P m), λ m. absurd (any_none Q m))
 any_zip R P Q alike [] (y ∷ ys) h = absurd h
 any_zip R P Q alike (x ∷ xs) [] h = absurd h

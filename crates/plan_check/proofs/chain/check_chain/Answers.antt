@@ -18,15 +18,15 @@ none_is P C (Some x) other h = absurd (other x refl)
 pub returns-in-Some-clause-verdict : goal.returns-in-Some-clause-verdict
 returns-in-Some-clause-verdict c = rw (c.as_slice.ensures.value, c.chain.view_is) at (c.in-Some.ensures (spot_seen c.args.query.start) (spot_seen c.args.query.goal))
 
-pub returns-in-Some-2-clause-verdict : goal.returns-in-Some-2-clause-verdict
-returns-in-Some-2-clause-verdict c =
+pub returns-in-Some-unclosed-clause-verdict : goal.returns-in-Some-unclosed-clause-verdict
+returns-in-Some-unclosed-clause-verdict c =
     let S = sums_seen c.args.sums.now in
     let R = frame_seen c.args.room in
     let s = spot_seen c.args.query.start in
     let g = spot_seen c.args.query.goal in
     let chain = c.args.chain.now in
     let tight : All (IsProperAndTight S R) chain = rw (c.as_slice.ensures.value, c.chain.view_is) at (c.in_default.ensures s g) in
-    (sound S R s g chain tight, rw c.in-Some-2.is at c.in_ok-k.ensures)
+    (sound S R s g chain tight, rw c.in-Some-unclosed.is at c.in_ok-unclosed.ensures.first)
 
 pub returns-then-not-parity-clause-verdict : goal.returns-then-not-parity-clause-verdict
 returns-then-not-parity-clause-verdict c =
@@ -36,7 +36,7 @@ returns-then-not-parity-clause-verdict c =
     let g = spot_seen c.args.query.goal in
     let chain = c.args.chain.now in
     let tight : All (IsProperAndTight S R) chain = rw (c.as_slice.ensures.value, c.chain.view_is) at (c.in_default.ensures s g) in
-    let closed : IsClosed chain = none_is _ (IsClosed chain) c.in_ok-k.field-0 c.in_default-2.not-Some c.in_ok-k.ensures in
+    let closed : IsClosed chain = none_is _ (IsClosed chain) c.in_ok-unclosed.unclosed c.in_default-unclosed.not-Some c.in_ok-unclosed.ensures.first in
     (sound S R s g chain tight, closed, sym (rw (c.as_slice-2.ensures.value, c.chain.view_is) at c.if-not-parity.ensures))
 
 pub returns-then-parity-clause-verdict : goal.returns-then-parity-clause-verdict
@@ -47,7 +47,7 @@ returns-then-parity-clause-verdict c =
     let g = spot_seen c.args.query.goal in
     let chain = c.args.chain.now in
     let tight : All (IsProperAndTight S R) chain = rw (c.as_slice.ensures.value, c.chain.view_is) at (c.in_default.ensures s g) in
-    let closed : IsClosed chain = none_is _ (IsClosed chain) c.in_ok-k.field-0 c.in_default-2.not-Some c.in_ok-k.ensures in
+    let closed : IsClosed chain = none_is _ (IsClosed chain) c.in_ok-unclosed.unclosed c.in_default-unclosed.not-Some c.in_ok-unclosed.ensures.first in
     (sound S R s g chain tight, closed, sym (rw (c.as_slice-2.ensures.value, c.chain.view_is) at c.if-not-parity.ensures), sym (rw (c.as_slice-3.ensures.value, c.chain.view_is) at c.if-parity.ensures))
 
 passed : (c : Else-parity) → Passed (sums_seen c.args.sums.now) (frame_seen c.args.room) (spot_seen c.args.query.start) (spot_seen c.args.query.goal) c.args.chain.now
@@ -58,7 +58,7 @@ passed c =
     let g = spot_seen c.args.query.goal in
     let chain = c.args.chain.now in
     let tight : All (IsProperAndTight S R) chain = rw (c.as_slice.ensures.value, c.chain.view_is) at (c.in_default.ensures s g) in
-    let closed : IsClosed chain = none_is _ (IsClosed chain) c.in_ok-k.field-0 c.in_default-2.not-Some c.in_ok-k.ensures in
+    let closed : IsClosed chain = none_is _ (IsClosed chain) c.in_ok-unclosed.unclosed c.in_default-unclosed.not-Some c.in_ok-unclosed.ensures.first in
     record {
       tight = tight;
       closed = closed;

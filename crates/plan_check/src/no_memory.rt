@@ -1,0 +1,18 @@
+use plan_cross::NoMemory as ChainNoMemory;
+use std::alloc::AllocError;
+
+/// There was no memory.
+#[derive(Clone, Copy, Debug, PartialEq, Eq)]
+pub struct NoMemory;
+
+impl From<AllocError> for NoMemory {
+    fn from(_: AllocError) -> NoMemory {
+        NoMemory
+    }
+}
+
+impl From<ChainNoMemory> for NoMemory {
+    fn from(_: ChainNoMemory) -> NoMemory {
+        NoMemory
+    }
+}
