@@ -6,4 +6,4 @@ use Rattle.plan_grid.specs.Spot.{IsWithin}
 use Rattle.plan_scene.proofs.tests.check_range.Given as goal
 
 abbrev pub invariant-loop-i : goal.invariant-loop-i
-invariant-loop-i l = (k : ℕ) (d : Spot) → k < l.i → IsWithin MOST_CORNER (get_or l.spots k d)
+invariant-loop-i g l = (k : ℕ) (d : Spot) → k < l.i → IsWithin MOST_CORNER (get_or l.spots k d)
