@@ -34,9 +34,9 @@ fn run_check_tells_each_document_by_its_status_and_its_line(rt: HostRuntime) -> 
         ),
         (
             "[2,2,15,2]",
-            "[[2,2,2]]",
-            Status::Refused(Refusal::Later),
-            "refused: later\n",
+            "[[2,2,0]]",
+            Status::Refused(Refusal::Range(String::from_str(alloc, "$.certificate.path[0]")?)),
+            "refused: range $.certificate.path[0]\n",
         ),
     ] {
         let certificate = format!(in alloc; "{{\"path\":{path}}}")?;

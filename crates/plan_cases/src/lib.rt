@@ -5,6 +5,8 @@
 #[cfg(test)]
 mod calls;
 #[cfg(test)]
+mod chains;
+#[cfg(test)]
 mod checks;
 #[cfg(test)]
 mod documents;
@@ -12,6 +14,8 @@ mod documents;
 mod faults;
 #[cfg(test)]
 mod paths;
+#[cfg(test)]
+mod polygons;
 #[cfg(test)]
 mod refusals;
 #[cfg(test)]

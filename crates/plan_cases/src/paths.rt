@@ -5,8 +5,8 @@ use std::process::Abort;
 use std::test::Fail;
 use std::thread::Threads;
 
-// Rows of a query, a path, and what `check` tells of them with this robot and these obstacles.
-fn answers<R: Threads + Sync + Abort>(
+/// Rows of a query, a path, and what `check` tells of them with this robot and these obstacles.
+pub fn answers<R: Threads + Sync + Abort>(
     rt: &R,
     alloc: Global,
     robot: &str,
@@ -138,4 +138,30 @@ fn the_first_segment_that_touches_any_obstacle_is_told(rt: HostRuntime) -> Resul
     let alloc = rt.alloc();
     answers(&rt, alloc, CORNER, ROCK, BY_THE_ROCK)?;
     answers(&rt, alloc, CORNER, SHELVES, BY_THE_SHELVES)
+}
+
+/// The corner robot and the spike, with points in lowest terms and not: through the sum at (17/2, 19/2), past it; a start
+/// in other terms, and one that is elsewhere; the last point in other terms.
+const RATIONAL: &str = r#"[2,2,15,2] [[4,4,2],[17,19,2],[15,2,1]] 6 "invalid: touches 0\n"
+[2,2,15,2] [[4,4,2],[2,15,1],[31,31,2],[15,2,1]] 0 "valid\n"
+[2,2,2,2] [[2,2,2]] 6 "invalid: wrong start\n"
+[2,2,15,2] [[2,2,1],[2,15,1],[31,31,2],[45,6,3]] 0 "valid\n"
+[2,2,15,2] [[2,2,1],[2,15,1],[31,31,2],[15,2,2]] 6 "invalid: wrong goal\n"
+[2,2,2,2] [[2,2,1],[15,20,2],[2,2,1]] 0 "valid\n"
+[2,2,2,2] [[2,2,1],[4611686018427387904,4611686018427387904,2305843009213693952]] 2 "refused: range $.certificate.path[1]\n"
+[2,2,2,2] [[2,2,1],[4503599627370496,4503599627370496,2251799813685248]] 0 "valid\n""#;
+
+/// A bar of four spots, and a path round it.
+const BAR: &str = r#"[{"id":1,"shape":[[9,-5],[11,-5],[11,10],[9,10]]}]"#;
+
+const BY_THE_BAR: &str =
+    r#"[2,2,15,2] [[2,2,1],[8,19,2],[16,29,2],[17,29,2],[18,29,2],[20,29,2],[22,29,2],[30,19,2],[15,2,1]] 0 "valid\n"
+[2,2,15,2] [[2,2,1],[8,19,2],[16,20,2],[22,29,2],[30,19,2],[15,2,1]] 6 "invalid: touches 1\n"
+[2,2,15,2] [[2,2,1],[15,2,1]] 6 "invalid: touches 0\n""#;
+
+#[test]
+fn points_of_a_path_are_rational(rt: HostRuntime) -> Result<(), Fail> {
+    let alloc = rt.alloc();
+    answers(&rt, alloc, CORNER, SPIKE, RATIONAL)?;
+    answers(&rt, alloc, CORNER, BAR, BY_THE_BAR)
 }

@@ -62,7 +62,10 @@ fn row_of_obstacles(alloc: Global, count: u32) -> Result<String, AllocError> {
 fn a_path_is_checked_among_sixty_four_obstacles(rt: HostRuntime) -> Result<(), Fail> {
     let alloc = rt.alloc();
     let words = words_of(alloc, "check")?;
-    for (count, expected) in [(64, r#"0 "valid\n""#), (65, r#"2 "refused: later\n""#)] {
+    for (count, expected) in [
+        (64, r#"0 "valid\n""#),
+        (65, r#"2 "refused: obstacles[64] too many obstacles\n""#),
+    ] {
         let obstacles = row_of_obstacles(alloc, count)?;
         let certificate = "{\"path\":[[2,2,1]]}";
         let text = document(alloc, CORNER, obstacles.as_str(), "[2,2,2,2]", certificate)?;
@@ -80,12 +83,49 @@ fn a_document_of_the_greatest_length_is_checked(rt: HostRuntime) -> Result<(), F
     let text = one_point(alloc)?;
     for (size, expected) in [
         (4_194_304, r#"0 "valid\n""#),
-        (4_194_305, r#"2 "refused: later\n""#),
+        (4_194_305, r#"2 "refused: too long\n""#),
     ] {
         let mut bytes = text.as_bytes().to_vec(alloc)?;
         bytes.resize(size, b' ')?;
         let told = answer_to(&rt, alloc, words.as_slice(), bytes.as_slice())?;
         expect(&rt, &told, expected, "bytes");
+    }
+    Ok(())
+}
+
+// So many spots of a parabola left of the frame, in convex position.
+fn parabola(alloc: Global, count: u32) -> Result<String, AllocError> {
+    let mut shape = String::from_str(alloc, "[[-100,0]")?;
+    for k in 1..count {
+        let spot = format!(in alloc; ",[-{},{}]", 100 - k, k * k)?;
+        shape.push_str(spot.as_str())?;
+    }
+    shape.push_str("]")?;
+    Ok(shape)
+}
+
+// Seventeen obstacles of 30 triangles, and one of two or of three triangles: with a robot of one triangle 512 or 513 sums.
+#[test]
+fn a_scene_has_at_most_512_sums(rt: HostRuntime) -> Result<(), Fail> {
+    let alloc = rt.alloc();
+    let words = words_of(alloc, "check")?;
+    for (last, expected) in [
+        (4, r#"0 "valid\n""#),
+        (5, r#"2 "refused: obstacles[17] too many sums 513\n""#),
+    ] {
+        let mut obstacles = String::from_str(alloc, "[")?;
+        let large = parabola(alloc, 32)?;
+        for id in 1..18 {
+            let obstacle = format!(in alloc; "{{\"id\":{id},\"shape\":{large}}},")?;
+            obstacles.push_str(obstacle.as_str())?;
+        }
+        let small = parabola(alloc, last)?;
+        let obstacle = format!(in alloc; "{{\"id\":18,\"shape\":{small}}}]")?;
+        obstacles.push_str(obstacle.as_str())?;
+        let certificate = "{\"path\":[[2,2,1]]}";
+        let text = document(alloc, CORNER, obstacles.as_str(), "[2,2,2,2]", certificate)?;
+        let told = answer_to(&rt, alloc, words.as_slice(), text.as_bytes())?;
+        expect(&rt, &told, expected, "sums");
     }
     Ok(())
 }

@@ -1,6 +1,9 @@
 pub mod Digits
 mod CommandCases
 pub mod Outcomes
-mod Scenes
-mod Checks
-mod Exclusion
+mod Kept
+mod ReadsProof
+mod Made
+mod Firsts
+mod Alike
+mod Judged

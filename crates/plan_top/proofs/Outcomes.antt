@@ -1,16 +1,18 @@
 -- What `check` did is what it was to answer and how its line was written: whole, or cut by a fault of the sink.
-use Rattle.std.specs.Prelude.{◌≡◌, ◌<◌, length, Some, None, IfSome, refl}
+use Rattle.std.specs.Prelude.{◌≡◌, ◌<◌, length, Some, None, IfSome, Err, refl}
 use Rattle.std.proofs.Common.{inl, inr}
 use Rattle.std.proofs.lemmas.Bool.{lt-leb}
 use Rattle.plan_wire.specs.Stream.{Appends}
-use Rattle.plan_wire.specs.Document.{first_of, most_bytes}
+use Rattle.plan_wire.specs.Reading.{too_long as too_many}
+use Rattle.plan_wire.specs.Documents.{document_of, most_bytes}
+use Rattle.plan_wire.specs.declared.documents.Want.TheVariants.{Check}
 use Rattle.plan_top.specs.Lines.{line_of}
 use Rattle.plan_top.specs.Outcome.{Told, IsAnswer, CheckOutcome, LineOutcome}
 use Rattle.plan_top.specs.declared.status.Status.{Status}
 
--- too many bytes are no first document
-pub too_long : (told : Told) → IfSome told (λ all. most_bytes < length all) → IfSome told (λ all. first_of all ≡ None)
-unfolding first_of
+-- too many bytes are refused as such
+pub too_long : (told : Told) → IfSome told (λ all. most_bytes < length all) → IfSome told (λ all. document_of all Check ≡ Err too_many)
+unfolding document_of
 too_long None long = tt
 too_long (Some all) long = rw (lt-leb (length all) most_bytes long) refl
 

@@ -1,13 +1,23 @@
 -- What a call answers and writes, by the bytes that its source tells, and which of its two counts of faults rises.
-use Rattle.std.specs.Prelude.{◌≡◌, ℕ, ◌⊎◌, List, [], Option, Some, None, IfSome, IsSomeAnd}
-use Rattle.plan_spec.specs.Route.{IsClearPolyline}
-use Rattle.plan_spec.specs.Reply.{IsFirstPathFault}
+use Rattle.std.specs.Prelude.{◌≡◌, ℕ, ◌⊎◌, List, [], Option, Some, None, IfSome, Err, IsOkAnd, string_bytes}
+use Rattle.plan_spec.specs.Frame.{Frame}
+use Rattle.plan_spec.specs.Room.{IsRoom}
+use Rattle.plan_spec.specs.Placement as placement
 use Rattle.plan_wire.specs.Stream.{Appends, AppendsPart}
-use Rattle.plan_wire.specs.Document.{First, first_of}
-use Rattle.plan_top.specs.Fault.{fault_seen}
+use Rattle.plan_wire.specs.Reading.{too_long, json, form, range}
+use Rattle.plan_wire.specs.Documents.{Document, Query, Certificate, path, chain, Task, queries, rounds, proof, document_of}
+use Rattle.plan_wire.specs.declared.documents.Want.TheVariants as want
+use Rattle.plan_wire.specs.declared.documents.Task as wire_task
+use Rattle.plan_wire.specs.declared.documents.Task.TheVariants as task
+use Rattle.plan_scene.specs.Scene.{Scene, scene_seen}
+use Rattle.plan_check.specs.Verdict.{IsPathVerdict, IsChainVerdict, IsTightIn, BlocksWhereValid}
+use Rattle.plan_check.specs.declared.verdict.Verdict.{Verdict}
+use Rattle.plan_check.specs.declared.verdict.Verdict.TheVariants as verdict
+use Rattle.plan_check.specs.declared.verdict.Verdict.TheVariants.{Valid}
+use Rattle.plan_top.specs.First.{IsFirst, IsRefusedFirst}
 use Rattle.plan_top.specs.Lines.{line_of}
-use Rattle.plan_top.specs.declared.fault.CheckFault.{CheckFault}
-use Rattle.plan_top.specs.declared.status.Refusal.TheVariants.{Later}
+use Rattle.plan_top.specs.declared.status.Refusal.{Refusal}
+use Rattle.plan_top.specs.declared.status.Refusal.TheVariants.{TooLong, Json, Form, Range, Later}
 use Rattle.plan_top.specs.declared.status.Status.{Status}
 use Rattle.plan_top.specs.declared.status.Status.TheVariants.{Done, Usage, Refused, ReadFault, WriteFault, NoMemory, Invalid}
 use Rattle.plan_top.specs.declared.command.Command.{Command}
@@ -17,19 +27,64 @@ use Rattle.plan_top.specs.declared.command.Command.TheVariants.{Plan, Session, C
 abbrev pub Told : Type 0
 Told = Option (List ℕ)
 
--- the path runs clear from start to goal
-abbrev pub IsValid : First → Type 0
-IsValid d = IsClearPolyline d.scene d.start d.goal d.path
+-- ---- what a document is answered
+-- P of the query and of the certificate
+abbrev pub OnProof : Task → (Query → Certificate → Type 0) → Type 0
+OnProof (proof query certificate) P = P query certificate
+OnProof (queries _) P = ⊥
+OnProof (rounds _) P = ⊥
 
--- this is the first fault of the path
-abbrev pub IsInvalid : CheckFault → First → Type 0
-IsInvalid fault d = IsFirstPathFault d.scene d.start d.goal d.path (fault_seen fault)
+-- the verdict on a certificate from s to g: a path is judged by what touches in the scene as it is given; a chain by the sums and the
+-- room of the first scene, and a valid one blocks s from g in the scene as it is given
+abbrev pub IsVerdictOn : placement.Scene → Scene → Query → Certificate → Verdict → Type 0
+IsVerdictOn given first query (path points) verdict = IsPathVerdict given query.start query.goal points verdict
+IsVerdictOn given first query (chain segments) verdict =
+    ((room : Frame) × IsRoom (scene_seen first).robot (scene_seen first).frame room × IsChainVerdict (IsTightIn (scene_seen first) room) query.start query.goal segments verdict)
+    × BlocksWhereValid given query.start query.goal segments verdict
+
+-- the scene as it is given, by spots; the first scene that it makes; and the verdict on the certificate
+pub record IsJudged (d : Document) (verdict : Verdict) : Type 0 where
+  pub given : Scene
+  pub is_given : scene_seen given ≡ d.scene
+  pub first : Scene
+  pub is_first : IsFirst given first
+  pub is_verdict : OnProof d.task (λ query certificate. IsVerdictOn d.scene first query certificate verdict)
+
+-- the first scene is refused
+pub record IsRefusedScene (d : Document) (refusal : Refusal) : Type 0 where
+  pub given : Scene
+  pub is_given : scene_seen given ≡ d.scene
+  pub is_refused : IsRefusedFirst given refusal
+
+-- what is asked is a check
+abbrev pub IsOfCheck : wire_task.Task → Type 0
+IsOfCheck (task.Proof query certificate) = Unit {0}
+IsOfCheck (task.Queries _) = ⊥
+IsOfCheck (task.Rounds _) = ⊥
+
+abbrev pub IsAnswerTo : Document → Status → Type 0
+IsAnswerTo d Done = IsJudged d Valid
+IsAnswerTo d (Invalid fault) = IsJudged d (verdict.Invalid fault)
+IsAnswerTo d (Refused refusal) = IsRefusedScene d refusal
+IsAnswerTo d _ = ⊥
+
+-- ---- what bytes are answered
+-- P of the document of `check` that the bytes are
+abbrev pub OnDocument : List ℕ → (Document → Type 0) → Type 0
+OnDocument bytes P = IsOkAnd (document_of bytes want.Check) P
+
+abbrev pub IsRefusal : List ℕ → Refusal → Type 0
+IsRefusal bytes TooLong = document_of bytes want.Check ≡ Err too_long
+IsRefusal bytes Json = document_of bytes want.Check ≡ Err json
+IsRefusal bytes (Form place) = document_of bytes want.Check ≡ Err (form (string_bytes place))
+IsRefusal bytes (Range place) = document_of bytes want.Check ≡ Err (range (string_bytes place))
+IsRefusal bytes refusal = OnDocument bytes (λ d. IsRefusedScene d refusal)
 
 -- a lawful answer of `check` to the bytes, where they are told
 abbrev pub IsAnswer : Told → Status → Type 0
-IsAnswer told Done = IfSome told (λ bytes. IsSomeAnd (first_of bytes) IsValid)
-IsAnswer told (Invalid fault) = IfSome told (λ bytes. IsSomeAnd (first_of bytes) (IsInvalid fault))
-IsAnswer told (Refused Later) = IfSome told (λ bytes. first_of bytes ≡ None)
+IsAnswer told Done = IfSome told (λ bytes. OnDocument bytes (λ d. IsJudged d Valid))
+IsAnswer told (Invalid fault) = IfSome told (λ bytes. OnDocument bytes (λ d. IsJudged d (verdict.Invalid fault)))
+IsAnswer told (Refused refusal) = IfSome told (λ bytes. IsRefusal bytes refusal)
 IsAnswer told Usage = ⊥
 IsAnswer told ReadFault = ⊥
 IsAnswer told WriteFault = ⊥

@@ -1,27 +1,51 @@
 ghost use Rattle.std.specs.Prelude.{Some, IfOk};
-ghost use Rattle.plan_top.specs.Outcome.{IsAnswer};
+ghost use Rattle.plan_wire.specs.Bounds.{DocumentFits};
+ghost use Rattle.plan_wire.specs.Seen.{document_seen};
+ghost use Rattle.plan_top.specs.Outcome.{IsAnswer, IsAnswerTo, IsOfCheck};
 
-use crate::check::check;
+use crate::first::first_scene;
 use crate::no_memory::NoMemory;
-use crate::scene::Scene;
 use crate::status::{Refusal, Status};
-use plan_wire::{FirstReadFault, read_first};
+use plan_check::{Verdict, check};
+use plan_wire::{Document, Task, Want, WireFault, read_document};
 use std::alloc::Global;
 
 /// What `check` answers to the bytes.
 pub fn answer_to(alloc: Global, bytes: &[u8]) -> Result<Status, NoMemory>
     ensures { IfOk result (IsAnswer (Some bytes.now)) }
 {
-    let document = match read_first(alloc, bytes) {
-        Ok(document) => document,
-        Err(FirstReadFault::Later) => return Ok(Status::Refused(Refusal::Later)),
-        Err(FirstReadFault::NoMemory) => return Err(NoMemory),
+    match read_document(alloc, bytes, Want::Check) {
+        Ok(document) => answer_of(alloc, document),
+        Err(WireFault::TooLong) => Ok(Status::Refused(Refusal::TooLong)),
+        Err(WireFault::Json) => Ok(Status::Refused(Refusal::Json)),
+        Err(WireFault::Form(place)) => Ok(Status::Refused(Refusal::Form(place))),
+        Err(WireFault::Range(place)) => Ok(Status::Refused(Refusal::Range(place))),
+        Err(WireFault::NoMemory) => Err(NoMemory),
+    }
+}
+
+// What it answers to the document.
+fn answer_of(alloc: Global, document: Document) -> Result<Status, NoMemory>
+    requires fits { DocumentFits document }
+    requires proof { IsOfCheck document.task }
+    ensures { IfOk result (IsAnswerTo (document_seen document)) }
+{
+    let Document {
+        frame,
+        robot,
+        obstacles,
+        task,
+    } = document;
+    let scene = match first_scene(alloc, frame, robot, obstacles.as_slice())? {
+        Ok(scene) => scene,
+        Err(refusal) => return Ok(Status::Refused(refusal)),
     };
-    let path = document.path.as_slice();
-    let obstacles = document.obstacles.as_slice();
-    let scene = Scene::of(alloc, document.frame, document.robot, obstacles)?;
-    match check(&scene, document.start, document.goal, path) {
-        None => Ok(Status::Done),
-        Some(fault) => Ok(Status::Invalid(fault)),
+    match task {
+        Task::Proof { query, certificate } => match check(alloc, &scene, query, &certificate) {
+            Ok(Verdict::Valid) => Ok(Status::Done),
+            Ok(Verdict::Invalid(fault)) => Ok(Status::Invalid(fault)),
+            Err(_) => Err(NoMemory),
+        },
+        Task::Queries(_) | Task::Rounds(_) => unreachable!(),
     }
 }

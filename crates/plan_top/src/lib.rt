@@ -3,20 +3,17 @@
 
 mod answer;
 mod arguments;
-mod check;
 mod command;
-mod fault;
-pub mod laws;
+mod first;
 mod lines;
 mod no_memory;
-mod scene;
 mod status;
-mod sum;
 mod top;
 
 pub use arguments::words_of;
 pub use command::Command;
-pub use fault::CheckFault;
 pub use no_memory::NoMemory;
+pub use plan_check::CheckFault;
+pub use plan_scene::EditFault;
 pub use status::{Refusal, Status};
 pub use top::{run, run_check};

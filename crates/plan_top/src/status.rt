@@ -1,10 +1,11 @@
 ghost use Rattle.std.specs.Prelude.{◌≡◌};
 ghost use Rattle.plan_top.specs.Status.{code_of};
 
-use crate::fault::CheckFault;
+use plan_check::CheckFault;
+use plan_scene::EditFault;
 
 /// How a call ended.
-#[derive(Clone, Copy, Debug, PartialEq, Eq)]
+#[derive(Debug, Drop, PartialEq, Eq)]
 pub enum Status {
     /// The answer was written.
     Done,
@@ -23,9 +24,22 @@ pub enum Status {
 }
 
 /// Why an input is refused.
-#[derive(Clone, Copy, Debug, PartialEq, Eq)]
+#[derive(Debug, Drop, PartialEq, Eq)]
 pub enum Refusal {
-    /// It is a command or a document that is not answered yet.
+    /// There are more than 4,194,304 bytes.
+    TooLong,
+    /// The bytes are not UTF-8, or no JSON with nesting to 127.
+    Json,
+    /// The place of this path is the first that is refused: it is missing, or another kind of value than it must be.
+    Form(String),
+    /// The place of this path is the first that is refused: its number, or its length, is out of range.
+    Range(String),
+    /// Edges of these numbers are the first two of the robot that meet wrongly.
+    RobotNotSimple(u32, u32),
+    /// The obstacle of this place in the list, counted from 0, is the first that is refused, for this fault, which is
+    /// never want of memory.
+    Obstacle { at: u32, fault: EditFault },
+    /// It is a command that is not answered yet.
     Later,
 }
 

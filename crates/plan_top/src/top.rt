@@ -1,5 +1,5 @@
 ghost use Rattle.std.specs.Prelude.{◌≡◌, ◌≢◌, ◌+◌, ◌≤◌, Some, map, string_bytes};
-ghost use Rattle.plan_wire.specs.Document.{most_bytes};
+ghost use Rattle.plan_wire.specs.Documents.{most_bytes};
 ghost use Rattle.plan_wire.specs.Stream.{TakesAtMost};
 ghost use Rattle.plan_top.specs.Lines.{line_of};
 ghost use Rattle.plan_top.specs.Outcome.{AnswerOutcome, CheckOutcome, LineOutcome, Outcome, SourceCount, SinkCount};
@@ -7,7 +7,7 @@ ghost use Rattle.plan_top.specs.Command.{command_of};
 
 use crate::answer::answer_to;
 use crate::command::{Command, command_of};
-use crate::lines::{LATER, USAGE, line_of};
+use crate::lines::{LATER, TOO_LONG, USAGE, line_of};
 use crate::no_memory::NoMemory;
 use crate::status::{Refusal, Status};
 use plan_wire::{Failed, Sink, Source, TakeFault, put_line, take_all};
@@ -65,7 +65,7 @@ pub fn run_check<R: Threads + Sync, S: Source, K: Sink>(
             Ok(answer) => write_answer(alloc, sink, answer),
             Err(NoMemory) => Status::NoMemory,
         },
-        Err(TakeFault::TooLong) => write_line(sink, Status::Refused(Refusal::Later), LATER),
+        Err(TakeFault::TooLong) => { write_line(sink, Status::Refused(Refusal::TooLong), TOO_LONG) }
         Err(TakeFault::Failed) => Status::ReadFault,
         Err(TakeFault::NoMemory) => Status::NoMemory,
     }
@@ -78,7 +78,7 @@ fn write_answer<K: Sink>(alloc: Global, sink: &mut K, answer: Status) -> Status
     ensures count { SinkCount K.rises (K.faults sink.old) (K.faults sink.new) result }
     ensures monotone { K.faults sink.old ≤ K.faults sink.new }
 {
-    match line_of(alloc, answer) {
+    match line_of(alloc, &answer) {
         Ok(line) => write_line(sink, answer, line.as_str()),
         Err(_) => Status::NoMemory,
     }

@@ -1,7 +1,7 @@
--- The first fault of the path that was read, or none.
+-- A document of `check` has a query and a certificate.
+use Rattle.plan_wire.specs.Seen.{document_seen}
+use Rattle.plan_top.proofs.ReadsProof.{of_document, of_check}
 use Rattle.plan_top.proofs.answer.answer_to.Goals as goal
 
-pub returns : goal.returns
-returns c =
-    let found = c.in-Some.ensures _ (rw c.as_slice-obstacles.ensures.value at c.in_ok-scene.ensures) in
-    rw c.in-Ok.ensures.ok (rw c.as_slice-path.ensures.value at found)
+pub answer_of-requires-clause-proof : goal.answer_of-requires-clause-proof
+answer_of-requires-clause-proof c = of_check c.in-Ok.document.task (of_document c.args.bytes.now (document_seen c.in-Ok.document) c.in-Ok.ensures.read)

@@ -1,0 +1,76 @@
+use crate::calls::{answer_to, column, expect, words_of};
+use crate::documents::{CORNER, document};
+use std::alloc::Global;
+use std::process::Abort;
+use std::test::Fail;
+use std::thread::Threads;
+
+// Rows of a query, a chain, and what `check` tells of them with the corner robot and these obstacles.
+fn answers<R: Threads + Sync + Abort>(
+    rt: &R,
+    alloc: Global,
+    obstacles: &str,
+    table: &str,
+) -> Result<(), Fail> {
+    let words = words_of(alloc, "check")?;
+    for row in table.lines() {
+        let (query, rest) = column(row)?;
+        let (chain, expected) = column(rest)?;
+        let certificate = format!(in alloc; "{{\"chain\":{chain}}}")?;
+        let text = document(alloc, CORNER, obstacles, query, certificate.as_str())?;
+        let told = answer_to(rt, alloc, words.as_slice(), text.as_bytes())?;
+        expect(rt, &told, expected, row);
+    }
+    Ok(())
+}
+
+/// A bar from below the frame to above it.
+const TALL_BAR: &str = r#"[{"id":1,"shape":[[9,-5],[11,-5],[11,25],[9,25]]}]"#;
+
+/// A chain round the part left of the bar, with its ends in this order and in others, in lowest terms and not; from
+/// the right, where it is even; open; round the whole room; none; a flat and a loose segment, and which comes first.
+const BY_THE_TALL_BAR: &str =
+    r#"[2,2,15,2] [[0,0,1,8,0,1],[8,0,1,8,19,1],[0,19,1,8,19,1],[0,0,1,0,19,1]] 0 "valid\n"
+[2,2,15,2] [[8,0,1,0,0,1],[8,19,1,8,0,1],[16,38,2,0,19,1],[0,0,3,0,57,3]] 0 "valid\n"
+[15,2,2,2] [[0,0,1,8,0,1],[8,0,1,8,19,1],[0,19,1,8,19,1],[0,0,1,0,19,1]] 6 "invalid: start even\n"
+[2,2,3,3] [[0,0,1,8,0,1],[8,0,1,8,19,1],[0,19,1,8,19,1],[0,0,1,0,19,1]] 6 "invalid: goal odd\n"
+[2,2,15,2] [[0,0,1,8,0,1]] 6 "invalid: unclosed 0\n"
+[2,2,15,2] [[0,0,1,8,0,1],[8,0,1,8,19,1],[0,19,1,8,19,1]] 6 "invalid: unclosed 0\n"
+[2,2,15,2] [[0,0,1,19,0,1],[19,0,1,19,19,1],[0,19,1,19,19,1],[0,0,1,0,19,1]] 6 "invalid: goal odd\n"
+[2,2,15,2] [] 6 "invalid: start even\n"
+[2,2,15,2] [[0,0,1,8,0,1],[8,0,1,16,0,2]] 6 "invalid: flat 1\n"
+[2,2,15,2] [[0,0,1,8,0,1],[7,0,1,7,19,1],[8,0,1,8,0,1]] 6 "invalid: loose 1\n"
+[2,2,15,2] [[0,0,1,8,0,1],[8,0,1,8,19,1],[0,19,1,8,19,1],[0,0,1,0,19,0]] 2 "refused: range $.certificate.chain[3]\n""#;
+
+/// A bar with nothing above it: its segment up to the frame is not tight.
+const BAR: &str = r#"[{"id":1,"shape":[[9,-5],[11,-5],[11,10],[9,10]]}]"#;
+
+const BY_THE_BAR: &str =
+    r#"[2,2,15,2] [[0,0,1,8,0,1],[8,0,1,8,19,1],[0,19,1,8,19,1],[0,0,1,0,19,1]] 6 "invalid: loose 1\n"
+[2,2,9,2] [[8,0,1,11,0,1],[8,0,1,8,10,1],[8,10,1,11,10,1],[11,0,1,11,10,1]] 6 "invalid: start even\n"
+[9,2,2,2] [[8,0,1,11,0,1],[8,0,1,8,10,1],[8,10,1,11,10,1],[11,0,1,11,10,1]] 0 "valid\n""#;
+
+/// Two bars of which one stands on the floor and one hangs down, exactly as far apart as the robot is high.
+const GAP: &str =
+    r#"[{"id":1,"shape":[[9,-5],[11,-5],[11,10],[9,10]]},{"id":2,"shape":[[9,11],[11,11],[11,25],[9,25]]}]"#;
+
+const BY_THE_GAP: &str =
+    r#"[2,2,15,2] [[0,0,1,8,0,1],[8,0,1,8,10,1],[8,11,1,8,19,1],[0,19,1,8,19,1],[0,0,1,0,19,1],[8,10,1,9,10,1],[8,11,1,9,10,1]] 0 "valid\n"
+[2,2,15,2] [[0,0,1,8,0,1],[8,0,1,8,10,1],[8,11,1,8,19,1],[0,19,1,8,19,1],[0,0,1,0,19,1],[8,10,1,8,11,1]] 6 "invalid: loose 5\n""#;
+
+/// A ring of four bars, and a chain round its inside.
+const RING: &str =
+    r#"[{"id":1,"shape":[[4,4],[6,4],[6,16],[4,16]]},{"id":2,"shape":[[14,4],[16,4],[16,16],[14,16]]},{"id":3,"shape":[[4,4],[16,4],[16,6],[4,6]]},{"id":4,"shape":[[4,14],[16,14],[16,16],[4,16]]}]"#;
+
+const BY_THE_RING: &str =
+    r#"[9,9,2,2] [[6,6,1,13,6,1],[13,6,1,13,13,1],[6,13,1,13,13,1],[6,6,1,6,13,1]] 0 "valid\n"
+[2,2,9,9] [[6,6,1,13,6,1],[13,6,1,13,13,1],[6,13,1,13,13,1],[6,6,1,6,13,1]] 6 "invalid: start even\n""#;
+
+#[test]
+fn a_chain_is_accepted_or_has_a_first_fault(rt: HostRuntime) -> Result<(), Fail> {
+    let alloc = rt.alloc();
+    answers(&rt, alloc, TALL_BAR, BY_THE_TALL_BAR)?;
+    answers(&rt, alloc, BAR, BY_THE_BAR)?;
+    answers(&rt, alloc, GAP, BY_THE_GAP)?;
+    answers(&rt, alloc, RING, BY_THE_RING)
+}

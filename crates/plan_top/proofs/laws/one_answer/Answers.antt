@@ -1,5 +1,0 @@
-use Rattle.plan_top.proofs.Exclusion.{one_answer}
-use Rattle.plan_top.proofs.laws.one_answer.Goals as goal
-
-pub returns : goal.returns
-returns c = one_answer
