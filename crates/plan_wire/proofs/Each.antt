@@ -3,14 +3,20 @@
 use Rattle.std.proofs.Common.{◌≡◌, ℕ, ◌+◌, ◌<◌, List, [], ◌∷◌, ◌++◌, length, get_or, drop, map, Ok, Err, IfSome, Bor, refl, sym, ap, ◌∙◌, append_assoc}
 use Rattle.std.proofs.lemmas.List.{drop_more, map-append}
 use Rattle.std.proofs.lemmas.Option.{IfSome_then}
-use Rattle.serde_json.specs.View.{view}
+use Rattle.serde_json.specs.Data.{Data}
+use Rattle.serde_json.specs.View.{view, items_view}
 use Rattle.serde_json.specs.declared.value.Value.{Value}
-use Rattle.plan_wire.specs.Reading.{Refusal, Read, Reader, made, each}
+use Rattle.plan_wire.specs.Reading.{Refusal, Read, Reader, list_of, made, each}
 use Rattle.plan_wire.specs.Place.{path_of}
 use Rattle.plan_wire.specs.Seen.{refusal_seen}
 use Rattle.plan_wire.specs.declared.documents.place.Place.{Place, Element}
 use Rattle.plan_wire.specs.declared.documents.fault.WireFault.{WireFault}
 use Rattle.plan_wire.proofs.Places.{path_of_element}
+
+-- the elements of a list of the JSON crate
+pub list_of_items_view : (vs : List Value) → list_of (items_view vs) ≡ map view vs
+list_of_items_view [] = refl
+list_of_items_view (v ∷ vs) = ap (λ ds. view v ∷ ds) (list_of_items_view vs)
 
 -- of the values the first i were read as these
 abbrev pub ReadSoFar : {X B : Type 0} → Reader B → (X → B) → List ℕ → List Value → List X → ℕ → Type 0

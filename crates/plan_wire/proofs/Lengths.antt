@@ -7,9 +7,9 @@ use Rattle.json.specs.Token.{Token}
 use Rattle.json.specs.Lex.{tokens}
 use Rattle.json.specs.Json as json
 use Rattle.serde_json.specs.Data.{Data, null, boolean, number, string, array, object, Items, no_items, item, Members, no_members, member, put}
-use Rattle.serde_json.specs.Find.{get, get_member}
+use Rattle.serde_json.specs.Find.{get, get_member, as_array}
 use Rattle.serde_json.specs.Read.{number_of, of_json, of_items, of_members, max_depth, read}
-use Rattle.plan_wire.specs.Document.{list_of, elements}
+use Rattle.plan_wire.specs.Reading.{list_of}
 use Rattle.plan_wire.proofs.Tokens.{length-tokens}
 
 -- how many values are in a value, it being one of them
@@ -237,8 +237,7 @@ items_are_few no_items = omega arith
 items_are_few (item d ds) = omega (arith, one_at_least d, items_are_few ds)
 
 -- so a list has fewer items than there are values in it
-pub elements_are_few : (v : Data) (vs : List Data) → elements v ≡ Some vs → length vs < values v
-unfolding elements
+pub elements_are_few : (v : Data) (vs : List Data) → option_map list_of (as_array v) ≡ Some vs → length vs < values v
 elements_are_few null vs found = cc
 elements_are_few (boolean b) vs found = cc
 elements_are_few (number n) vs found = cc

@@ -1,5 +1,4 @@
 pub mod Streams
-pub mod Lists
 pub mod Bytes
 mod Cases
 pub mod Each
@@ -7,7 +6,5 @@ pub mod Places
 pub mod Kept
 pub mod Points
 pub mod Six
-pub mod Texts
-pub mod Fits
 pub mod Tokens
 pub mod Lengths

@@ -1,8 +1,5 @@
 pub mod Stream
 pub mod Memory
-pub mod Document
-pub mod First
-pub mod Fits
 pub mod Reading
 pub mod Documents
 pub mod Place

@@ -1,12 +1,10 @@
 //! The edge of the planner: sources and sinks of bytes, and the document that bytes are.
 #![tactic(auto)]
 
-mod document;
 mod documents;
 mod no_memory;
 mod stream;
 
-pub use document::{FirstDocument, FirstReadFault, FirstShape, read_first};
 pub use documents::{Change, Document, Shape, Task, Turn, Want, WireFault, read_document};
 pub use no_memory::NoMemory;
 pub use stream::{

@@ -1,4 +1,3 @@
-mod documents;
 mod faults;
 mod streams;
 mod values;

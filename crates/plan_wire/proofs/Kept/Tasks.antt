@@ -12,7 +12,6 @@ use Rattle.plan_grid.specs.Bounds.{IsInRange}
 use Rattle.plan_cross.specs.declared.certificate.Certificate.{Certificate}
 use Rattle.plan_cross.specs.declared.certificate.Certificate.TheVariants.{Path, Blocked}
 use Rattle.plan_wire.specs.Reading.{Reader, range, form, bind, made, elements, list_of, integer, list_of_exactly, list_of_between, list_of_any, member, one_of, object}
-use Rattle.plan_wire.specs.Document as old
 use Rattle.plan_wire.specs.Documents as definition
 use Rattle.plan_wire.specs.Documents.{numbers, nth, query_of, id_of, shape_of, edit_of, edits_of, lane_of, lanes_of, round_of, point_at, point_of, segment_at, segment_of, path_of, chain_of, certificate_of, most_bytes}
 use Rattle.plan_wire.specs.Seen.{query_seen, certificate_seen, edit_seen, round_seen}
@@ -107,7 +106,7 @@ segment_kept place v s h =
 
 -- a list of any number has fewer than there are values in it
 pub few : {X B : Type 0} (P : X → Type 0) (f : Reader B) (seen : X → B) → Keeps P f seen → (place : List ℕ) (v : Data) (xs : List X) → list_of_any f place v ≡ Ok (map seen xs) → (length xs < values v) × All P xs
-unfolding elements old.elements
+unfolding elements
 few P f seen keeps place v xs h =
     let k = any_keeps P f seen keeps place v xs h in
     (omega (arith, k.2, elements_are_few v k.0 (some_or_ok (form place) (option_map list_of (as_array v)) k.0 k.1)), k.3)

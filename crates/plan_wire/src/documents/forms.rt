@@ -27,7 +27,7 @@ pub(crate) trait Form {
 }
 
 // The elements of a list.
-#[tactic(auto, using(crate::proofs::Lists::list_of_items_view), unfolding(crate::specs::Reading::elements))]
+#[tactic(auto, using(crate::proofs::Each::list_of_items_view), unfolding(crate::specs::Reading::elements))]
 pub(crate) fn elements<'a>(
     alloc: Global,
     place: &Place,

@@ -1,6 +1,6 @@
 ghost use Rattle.std.specs.Prelude.{◌≡◌, ◌+◌, ◌<◌, ◌≤◌, ◌≢◌, [], length, Some, vec_len, Err, IfOk, OnOk, IfSome, IsErrOf};
 ghost use Rattle.plan_wire.specs.Stream.{TakesAtMost};
-ghost use Rattle.plan_wire.specs.Document.{most_bytes};
+ghost use Rattle.plan_wire.specs.Documents.{most_bytes};
 
 use super::failed::Failed;
 use super::source::Source;
