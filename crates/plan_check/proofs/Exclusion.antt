@@ -70,7 +70,7 @@ no_start : (s : Vector) (path : List Vector) → path ≡ [] → ¬ (StartsAt s 
 no_start s path empty starts = subst (StartsAt s) empty starts
 
 module _ (scene : Scene) (s g : Vector) (path : List Vector) where
-  clear_or_fault : (fault : Fault) → IsClearPolyline scene s g path → ¬ (IsFirstPathFault scene s g path fault)
+  pub clear_or_fault : (fault : Fault) → IsClearPolyline scene s g path → ¬ (IsFirstPathFault scene s g path fault)
   clear_or_fault empty_path clear empty = no_start s path empty clear.is_route.starts
   clear_or_fault wrong_start clear h = h.1 clear.is_route.starts
   clear_or_fault wrong_goal clear h = h.1 clear.is_route.ends
@@ -81,7 +81,7 @@ module _ (scene : Scene) (s g : Vector) (path : List Vector) where
   clear_or_fault start_even clear h = h
   clear_or_fault goal_odd clear h = h
 
-  one_path_fault : (e f : Fault) → IsFirstPathFault scene s g path e → IsFirstPathFault scene s g path f → e ≡ f
+  pub one_path_fault : (e f : Fault) → IsFirstPathFault scene s g path e → IsFirstPathFault scene s g path f → e ≡ f
   one_path_fault empty_path empty_path h k = refl
   one_path_fault empty_path wrong_start h k = absurd (k.0 h)
   one_path_fault empty_path wrong_goal h k = absurd (no_start s path h k.0)
@@ -133,7 +133,7 @@ module _ (tight : Segment → Type 0) (s g : Vector) (chain : List Segment) (poi
       by None e l = e
       by (Some t) e l = l.0 e
 
-  accepted_or_chain_fault : (fault : Fault) → IsAccepted tight s g chain → ¬ (IsFirstChainFault tight s g chain fault)
+  pub accepted_or_chain_fault : (fault : Fault) → IsAccepted tight s g chain → ¬ (IsFirstChainFault tight s g chain fault)
   accepted_or_chain_fault (flat k) a h = not_flat k a.sound h.bad
   accepted_or_chain_fault (loose k) a h = not_loose k a.sound h.bad
   accepted_or_chain_fault (unclosed k) a h = not_odd k a.closed h.1.bad
@@ -144,7 +144,7 @@ module _ (tight : Segment → Type 0) (s g : Vector) (chain : List Segment) (poi
   accepted_or_chain_fault wrong_goal a h = h
   accepted_or_chain_fault (touches k) a h = h
 
-  one_chain_fault : (e f : Fault) → IsFirstChainFault tight s g chain e → IsFirstChainFault tight s g chain f → e ≡ f
+  pub one_chain_fault : (e f : Fault) → IsFirstChainFault tight s g chain e → IsFirstChainFault tight s g chain f → e ≡ f
   one_chain_fault (flat i) (flat j) h k = ap flat (one_place IsFlat (IsSound tight) IsFlat (IsSound tight) (λ t e h. h.0 e) (λ t e h. h.0 e) chain i j h k)
   one_chain_fault (flat i) (loose j) h k = absurd (flat_or_loose i j h k)
   one_chain_fault (flat i) (unclosed j) h k = absurd (not_flat i k.0 h.bad)

@@ -8,5 +8,5 @@ mod ClearPaths
 mod Legs
 mod PathFaults
 pub mod ChainFaults
-mod Exclusion
+pub mod Exclusion
 mod Scenes

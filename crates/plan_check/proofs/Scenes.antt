@@ -1,8 +1,7 @@
 -- A scene's sums and its room tell what the robot touches; and a segment between points is tight by the sums exactly where it is by their parts.
-use Rattle.std.proofs.Common.{◌≡◌, ◌↔◌, ◌⊎◌, inl, inr, ⊎_elim, List, [], ◌∷◌, All, Any, refl, ap, ◌∙◌}
-use Rattle.std.specs.List.{AllZip}
+use Rattle.std.proofs.Common.{◌↔◌, inl, inr, ⊎_elim, List, All, Any}
 use Rattle.std.proofs.lemmas.List.Elements.{All-map}
-use Rattle.plan_spec.specs.Vector.{Vector, IsPoint}
+use Rattle.plan_spec.specs.Vector.{Vector}
 use Rattle.plan_spec.specs.Segment.{Segment, HasPoints}
 use Rattle.plan_spec.specs.Polygon.{Inside}
 use Rattle.plan_spec.specs.Frame.{Frame}
@@ -10,8 +9,7 @@ use Rattle.plan_spec.specs.Room.{IsRoom}
 use Rattle.plan_spec.specs.Triangulation.{corners, triangles}
 use Rattle.plan_spec.specs.Placement as placement
 use Rattle.plan_spec.specs.Sums.{Part, InDifference, IsSum, AreSums, parts}
-use Rattle.plan_spec.specs.Chain.{IsClosed}
-use Rattle.plan_spec.specs.Reply.{IsFlat, IsLoose, IsSound, IsTight, IsAccepted}
+use Rattle.plan_spec.specs.Reply.{IsFlat, IsLoose, IsSound, IsTight}
 use Rattle.plan_tri.proofs.Region.Triangulated.{Triangulated}
 use Rattle.plan_tri.proofs.Region.Polygons.{of_polygon}
 use Rattle.plan_scene.specs.Scene.{Scene, IsScene, scene_seen, obstacle_seen}
@@ -21,7 +19,6 @@ use Rattle.plan_check.specs.Touching.{IsToldBy}
 use Rattle.plan_check.specs.Verdict.{IsTightIn, IsChainVerdict}
 use Rattle.plan_check.specs.declared.verdict.Verdict.{Verdict}
 use Rattle.plan_check.specs.declared.verdict.Verdict.TheVariants.{Valid, Invalid}
-use Rattle.plan_check.specs.declared.fault.CheckFault.{CheckFault}
 use Rattle.plan_check.specs.declared.fault.CheckFault.TheVariants.{EmptyPath, WrongStart, WrongGoal, Touches, Flat, Loose, Unclosed, StartEven, GoalOdd}
 
 ready : (s : Scene) (room : Frame) (sums : List (List Vector)) → IsScene s → IsRoom (scene_seen s).robot (scene_seen s).frame room → AreSums (scene_seen s) sums → IsReady (scene_seen s) room sums

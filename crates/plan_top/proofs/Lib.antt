@@ -7,3 +7,10 @@ mod Made
 mod Firsts
 mod Alike
 mod Judged
+mod OneKept
+mod OneRoom
+mod OneFirst
+mod Exclusion
+mod OneRefusal
+mod ReadsPoints
+mod OneAnswer

@@ -3,3 +3,4 @@ pub mod Command
 pub mod Lines
 pub mod First
 pub mod Outcome
+pub mod Laws

@@ -1,14 +1,11 @@
 -- By the scene's sums and its room, which tell what is touched and what is tight.
-use Rattle.std.proofs.Common.{◌≡◌, Result, Ok, Err, IfOk, subst, sym}
-use Rattle.std.proofs.lemmas.Result.{IfOk-weaker}
-use Rattle.plan_spec.specs.Frame.{Frame}
+use Rattle.std.proofs.Common.{Result, Ok, Err, IfOk, subst, sym}
 use Rattle.plan_spec.specs.Reply.{IsTight}
 use Rattle.plan_grid.specs.Frame.{frame_seen}
 use Rattle.plan_grid.specs.Spot.{spot_seen}
 use Rattle.plan_cross.specs.declared.certificate.Certificate.TheVariants.{Blocked}
 use Rattle.plan_convex.specs.Piece.{sums_seen}
 use Rattle.plan_scene.specs.Scene.{scene_seen}
-use Rattle.plan_check.specs.Touching.{IsToldBy}
 use Rattle.plan_check.specs.Verdict.{IsVerdict, BlocksWhereAccepted, IsTightIn}
 use Rattle.plan_check.proofs.Scenes.{told, tight_alike, verdict_alike}
 use Rattle.plan_check.proofs.certificate.check.Goals as goal

@@ -1,0 +1,18 @@
+//! The laws of answers. Each function does nothing: its contract is the law.
+
+ghost use Rattle.plan_top.specs.Laws.{ValidOrInvalid, OneFirstFault, OneAnswer};
+
+/// No document is both valid and invalid.
+pub fn valid_or_invalid()
+    ensures { ValidOrInvalid }
+{}
+
+/// No document has two first faults.
+pub fn one_first_fault()
+    ensures { OneFirstFault }
+{}
+
+/// No bytes have two answers of `check`: two lawful ones have one exit code and one line.
+pub fn one_answer()
+    ensures { OneAnswer }
+{}
