@@ -21,3 +21,4 @@ pub mod Walks
 pub mod Paths
 pub mod Rings
 pub mod Answers
+pub mod Maps
