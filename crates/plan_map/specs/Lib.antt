@@ -1,4 +1,5 @@
 pub mod Distances
 pub mod Search
 pub mod Row
+pub mod Labels
 pub mod Laws

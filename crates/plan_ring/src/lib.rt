@@ -2,3 +2,8 @@
 #![tactic(auto)]
 
 pub mod laws;
+mod no_memory;
+mod ring;
+
+pub use no_memory::NoMemory;
+pub use ring::ring;

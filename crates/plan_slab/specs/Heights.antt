@@ -1,5 +1,6 @@
 -- Heights of edges at the x of a point, and of marks.
-use Rattle.std.specs.Prelude.{pos, ◌*ℤ◌, ◌≤ℤ◌, ◌<ℤ◌, ◌<◌, ◌≤◌, ◌^◌, unsigned_abs}
+use Rattle.std.specs.Prelude.{◌⊎◌, ℕ, pos, ◌*◌, ◌*ℤ◌, ◌≤ℤ◌, ◌<ℤ◌, ◌<◌, ◌≤◌, ◌^◌, unsigned_abs}
+use Rattle.std.specs.Int.{◌∣◌}
 use Rattle.plan_exact.specs.Vectors.{Vector}
 use Rattle.plan_grid.specs.Fraction.{Fraction, IsRatio}
 use Rattle.plan_grid.specs.Spot.{IsWithin}
@@ -16,6 +17,14 @@ pub record IsLevel (f : Fraction) : Type 0 where
 pub record IsHeight (f : Fraction) : Type 0 where
   pub ratio : IsRatio f
   pub bounded : unsigned_abs f.den ≤ 2 ^ 37
+
+-- a height on the line l: its denominator divides that of the line times a factor, which is the run of an edge, or small
+pub record IsHeightOn (l f : Fraction) : Type 0 where
+  pub height : IsHeight f
+  pub factor : ℕ
+  pub positive : 1 ≤ factor
+  pub divides : unsigned_abs f.den ∣ factor * unsigned_abs l.den
+  pub small : (factor ≤ 4092) ⊎ (factor * unsigned_abs l.den < 2 ^ 25)
 
 -- the strand is from left to right, with the x of z in its range
 pub record IsOver (s : Strand) (z : Vector) : Type 0 where

@@ -17,4 +17,5 @@ pub mod RisingValues
 pub mod Rungs
 pub mod Sweeps
 pub mod LotKeys
+pub mod Ends
 pub mod Subdivision

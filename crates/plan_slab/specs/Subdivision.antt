@@ -1,5 +1,5 @@
 -- What the readers of slabs tell, and what they rest on.
-use Rattle.std.specs.Prelude.{◌≡◌, ℕ, ◌<◌, ◌≤◌, Option, MatchOption, List, length, map, get_or, All, AllPairs, Contains}
+use Rattle.std.specs.Prelude.{◌≡◌, ℕ, ◌<◌, ◌≤◌, Option, MatchOption, List, [], length, map, get_or, All, AllPairs, Contains}
 use Rattle.plan_spec.specs.Slabs.{Slabs}
 use Rattle.plan_spec.specs.Slabs.{size}
 use Rattle.plan_spec.specs.Regions as spec
@@ -7,8 +7,11 @@ use Rattle.plan_spec.specs.Regions.{IsLot}
 use Rattle.plan_grid.specs.Fraction.{Fraction}
 use Rattle.plan_slab.specs.declared.lot.Lot.{Lot}
 use Rattle.plan_slab.specs.declared.strand.Strand.{Strand}
+use Rattle.plan_slab.specs.declared.row.Row.{Row}
 use Rattle.plan_slab.specs.Decomposition.{AreInOrder, IsPlaced}
+use Rattle.plan_slab.specs.Ends.{AreEnds, AreNeighbourRows}
 use Rattle.plan_slab.specs.FreeLots.{AreRows}
+use Rattle.plan_slab.specs.Heights.{IsHeightOn}
 use Rattle.plan_slab.specs.LotKeys.{key}
 use Rattle.plan_slab.specs.LotOrder.{Earlier}
 use Rattle.plan_slab.specs.Seen.{lot_seen}
@@ -36,6 +39,7 @@ pub record IsSubdivision (s : Subdivision) : Type 0 where
   pub few_regions : length s.lots ≤ 131072
   pub lots : All (IsLot (slabs_of s)) (regions_of s)
   pub rising : AllPairs Earlier (regions_of s)
+  pub on_lines : (k : ℕ) (d : Fraction) → k < length s.marks → All (IsHeightOn (get_or s.lines k d)) (get_or s.marks k [])
   pub order : AreInOrder (slabs_of s)
   pub placed : IsPlaced (slabs_of s)
 
@@ -48,3 +52,9 @@ pub record IsFirstFrom (s : Subdivision) (least n : ℕ) : Type 0 where
   pub within : n ≤ length (regions_of s)
   pub before : (k : ℕ) (d : spec.Lot) → k < n → key (get_or (regions_of s) k d) < least
   pub from : (k : ℕ) (d : spec.Lot) → n ≤ k → k < length (regions_of s) → least ≤ key (get_or (regions_of s) k d)
+
+-- what is kept beside it: the marks in which spans meet their lines, and the neighbours of regions
+pub record IsKept (s : Subdivision) (ends : List (List (ℕ × ℕ))) (rows : List Row) : Type 0 where
+  pub subdivision : IsSubdivision s
+  pub ends : AreEnds (slabs_of s) ends
+  pub rows : AreNeighbourRows (slabs_of s) (regions_of s) rows

@@ -2,6 +2,7 @@
 #![tactic(auto)]
 
 mod bar;
+mod build;
 mod fault;
 mod feet;
 mod free;
@@ -13,12 +14,15 @@ mod marks;
 mod near;
 mod numbers;
 mod rising;
+mod row;
 mod rungs;
 mod slabs;
 mod spans;
 mod strand;
 mod sweep;
 
+pub use fault::SlabFault;
 pub use lot::Lot;
+pub use row::Row;
 pub use slabs::Slabs;
 pub use strand::Strand;

@@ -5,6 +5,6 @@ use Rattle.plan_slab.proofs.slabs.Slabs.cell.Goals as goal
 
 pub number-requires : goal.number-requires
 number-requires c =
-    let h : IsSubdivision c.args.self.now = subst IsSubdivision c.self.view_is c.self.invariant in
+    let h : IsSubdivision c.args.self.now = subst IsSubdivision c.self.view_is c.self.invariant.subdivision in
     let rows = h.rows in
     omega (arith, c.requires.at, rows.few_spans c.args.slab [] (omega (arith, c.requires.slab, rows.slab_count)))

@@ -11,7 +11,7 @@ use Rattle.plan_slab.proofs.slabs.Slabs.first_from.Goals as goal
 pub returns : goal.returns
 returns c =
     let s = c.args.self.now in
-    let h : IsSubdivision s = subst IsSubdivision c.self.view_is c.self.invariant in
+    let h : IsSubdivision s = subst IsSubdivision c.self.view_is c.self.invariant.subdivision in
     let lots : c.deref.result.now ≡ s.lots = c.deref.ensures.value ∙ ap (λ v. v.lots) c.self.view_is in
     let parted = IsPartitionedBy-ltb (λ lot. key (lot_seen lot)) c.deref.result.now c.args.key (subst (IsNonDecreasingBy (λ lot. key (lot_seen lot))) (sym lots) (keys_rise s h)) in
     let point = IsPartitionPoint-from_clause (λ lot. ltb (key (lot_seen lot)) c.args.key) c.deref.result.now c.partition_point.result c.partition_point.ensures.partitioned parted (λ a r q k. search rules) in

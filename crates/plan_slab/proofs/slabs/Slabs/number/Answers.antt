@@ -9,7 +9,7 @@ use Rattle.plan_slab.proofs.slabs.Slabs.number.Goals.{else-at-len-via-then-at-le
 pub returns : goal.returns
 returns c =
     let s = c.args.self.now in
-    let h : IsSubdivision s = subst IsSubdivision c.self.view_is c.self.invariant in
+    let h : IsSubdivision s = subst IsSubdivision c.self.view_is c.self.invariant.subdivision in
     no_number s h c.args.lot c.first_from-at.result (rw c.key.ensures at c.first_from-at.ensures) (λ less e. elim c.else-at-len.branch [
       | else-at-len-via-then-at-len+else-is w ↦ (
           let lots = ap (λ v. v.lots) c.self.view_is in

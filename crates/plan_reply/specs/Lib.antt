@@ -1,0 +1,4 @@
+pub mod Seen
+pub mod Step
+pub mod First
+pub mod Stand

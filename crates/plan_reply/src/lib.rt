@@ -1,0 +1,13 @@
+//! One version of a floor, which answers queries: with a path, with a chain that blocks, or with what start or goal
+//! touches.
+#![tactic(auto)]
+
+mod fault;
+mod no_memory;
+mod reply;
+mod stand;
+
+pub use fault::{FirstFault, StandFault, StepFault};
+pub use no_memory::NoMemory;
+pub use reply::Reply;
+pub use stand::Stand;
