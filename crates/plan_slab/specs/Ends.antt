@@ -1,5 +1,5 @@
 -- The marks in which spans meet the lines of their slabs, and the neighbours of regions, as tables.
-use Rattle.std.specs.Prelude.{◌≡◌, ◌×◌, ℕ, ◌<◌, List, [], length, get_or}
+use Rattle.std.specs.Prelude.{◌≡◌, ℕ, ◌<◌, List, [], length, get_or}
 use Rattle.plan_spec.specs.Slabs.{Slabs, spans_of}
 use Rattle.plan_spec.specs.Regions.{Lot}
 use Rattle.plan_spec.specs.Neighbours.{on_left, on_right}

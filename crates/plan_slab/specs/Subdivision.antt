@@ -54,7 +54,7 @@ pub record IsFirstFrom (s : Subdivision) (least n : ℕ) : Type 0 where
   pub from : (k : ℕ) (d : spec.Lot) → n ≤ k → k < length (regions_of s) → least ≤ key (get_or (regions_of s) k d)
 
 -- what is kept beside it: the marks in which spans meet their lines, and the neighbours of regions
-pub record IsKept (s : Subdivision) (ends : List (List (ℕ × ℕ))) (rows : List Row) : Type 0 where
+pub record IsKept (s : Subdivision) (met : List (List (ℕ × ℕ))) (beside : List Row) : Type 0 where
   pub subdivision : IsSubdivision s
-  pub ends : AreEnds (slabs_of s) ends
-  pub rows : AreNeighbourRows (slabs_of s) (regions_of s) rows
+  pub ends : AreEnds (slabs_of s) met
+  pub rows : AreNeighbourRows (slabs_of s) (regions_of s) beside
