@@ -1,5 +1,5 @@
 -- The heights of the bars that meet a line give its marks.
-use Rattle.std.proofs.Common.{◌≡◌, ◌⊎◌, inl, inr, ⊎_elim, ℕ, suc, ◌<◌, ℤ, pos, ◌+ℤ◌, ◌-ℤ◌, neg_ℤ, ◌*ℤ◌, ◌<ℤ◌, refl, sym, subst, ap, ap₂, ◌∙◌, List, [], ◌∷◌, ◌++◌, get_or, length, map, All, Any, AllPairs, Contains, arith}
+use Rattle.std.proofs.Common.{◌≡◌, ◌⊎◌, inl, inr, ⊎_elim, ℕ, suc, ◌<◌, ℤ, pos, ◌+ℤ◌, ◌-ℤ◌, neg_ℤ, ◌*ℤ◌, ◌<ℤ◌, refl, sym, subst, ap, ◌∙◌, List, [], ◌∷◌, ◌++◌, get_or, length, All, Any, Contains, arith}
 use Rattle.std.specs.List.{AllZip, flat_map}
 use Rattle.std.proofs.lemmas.List.{get_or_default, map-append}
 use Rattle.std.proofs.lemmas.List.Elements.{All-nil, All-cons, All-map, All-head, All-tail, Contains-get_or}
@@ -9,7 +9,7 @@ use Rattle.plan_exact.specs.Vectors.{env}
 use Rattle.plan_exact.proofs.Ring.{ring}
 use Rattle.plan_exact.proofs.Laws.{linear, mul_comm, mul_assoc, add_mul, neg_mul}
 use Rattle.plan_exact.proofs.Signs.{mul_pos, le_or_lt}
-use Rattle.plan_spec.specs.Vector.{Vector, IsPoint, LeX, LtX, LtY, SameX, Same, turn}
+use Rattle.plan_spec.specs.Vector.{Vector, IsPoint, LeX, LtX, LtY, Same, turn}
 use Rattle.plan_spec.specs.Frame.{Frame}
 use Rattle.plan_spec.specs.Pieces.{Piece, piece}
 use Rattle.plan_spec.specs.Slabs.{piece_at, nothing, AreMarks}
@@ -22,7 +22,6 @@ use Rattle.plan_slab.specs.Bars.{IsBar}
 use Rattle.plan_slab.specs.EventLines.{IsLine}
 use Rattle.plan_slab.specs.Heights.{IsHeight}
 use Rattle.plan_slab.specs.LineMarks.{IsUpright, AreHeightsOf, both, one, AreHeightsAt}
-use Rattle.plan_slab.specs.RisingValues.{IsRisingOf}
 use Rattle.plan_slab.specs.Seen.{line_seen, marks_seen}
 use Rattle.plan_slab.specs.Sweeps.{BeginsBy, LastsTo}
 use Rattle.plan_slab.proofs.Pieces.{IsPiece, HasPieces}

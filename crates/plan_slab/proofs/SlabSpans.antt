@@ -1,7 +1,6 @@
 -- Of the bars that go across a slab the first of each height give its spans.
-use Rattle.std.proofs.Common.{◌≡◌, ℕ, ◌<◌, ◌≤◌, refl, sym, subst, ap, ◌∙◌, List, [], ◌∷◌, get_or, length, map, All, Any, AllPairs, arith}
+use Rattle.std.proofs.Common.{◌≡◌, ℕ, ◌<◌, ◌≤◌, refl, sym, subst, ap, ◌∙◌, List, [], ◌∷◌, get_or, length, map, All, Any, arith}
 use Rattle.plan_spec.specs.Vector.{Vector, LtY, SameY}
-use Rattle.plan_spec.specs.Segment.{Segment}
 use Rattle.plan_spec.specs.Frame.{Frame}
 use Rattle.plan_spec.specs.Pieces.{Piece}
 use Rattle.plan_spec.specs.Regions.{foot, mediant}

@@ -1,9 +1,9 @@
 -- Of the bars the first of each height are the spans.
-use Rattle.std.proofs.Common.{◌≡◌, sym, subst, ap, ◌∙◌, map}
+use Rattle.std.proofs.Common.{subst, ap, ◌∙◌, map}
 use Rattle.plan_spec.specs.Slabs.{AreSpans}
 use Rattle.plan_slab.specs.declared.rungs.Rung.{Rung}
 use Rattle.plan_slab.specs.Rungs.{AreFirstOf}
-use Rattle.plan_slab.specs.Seen.{line_seen, strand_seen}
+use Rattle.plan_slab.specs.Seen.{line_seen}
 use Rattle.plan_slab.proofs.Order.Across.{IsSlab}
 use Rattle.plan_slab.proofs.Pieces.{has_pieces}
 use Rattle.plan_slab.proofs.XValues.{line_point}
