@@ -7,3 +7,6 @@ pub mod Spreading
 pub mod Stepping
 pub mod Rows
 pub mod Joined
+pub mod RegionRows
+pub mod Carried
+pub mod Floods

@@ -1,6 +1,6 @@
 -- The neighbours of each region, as lists.
 use Rattle.std.specs.Prelude.{ℕ, ◌<◌, List, ◌++◌, length, get_or, AllPairs, Contains}
-use Rattle.plan_map.specs.declared.row.Row.{Row}
+use Rattle.plan_slab.specs.declared.row.Row.{Row}
 use Rattle.plan_map.specs.Search.{numbers}
 
 abbrev pub numbers_of : Row → List ℕ

@@ -5,8 +5,8 @@ ghost use Rattle.plan_spec.specs.Walks.{IsComponent};
 ghost use Rattle.plan_map.specs.Row.{in_row, AreRows};
 ghost use Rattle.plan_map.specs.Search.{AreMeasured};
 
-use crate::row::Row;
 use crate::walk::distances;
+use plan_slab::Row;
 use std::alloc::{AllocError, Global};
 
 /// The numbers of all regions that a walk joins to this one, rising.

@@ -2,10 +2,11 @@
 #![tactic(auto)]
 
 mod component;
+mod labels;
 pub mod laws;
 mod map;
+mod neighbours;
 mod no_memory;
-mod row;
 mod search;
 mod walk;
 

@@ -4,7 +4,10 @@ ghost use Rattle.plan_spec.specs.Walks.{IsFirstWalk, IsComponent, AreJoined};
 ghost use Rattle.plan_slab.specs.Subdivision.{slabs_of, regions_of};
 ghost use Rattle.plan_map.specs.Labels.{AreLabels};
 
+use crate::component::component;
+use crate::labels::labels;
 use crate::no_memory::NoMemory;
+use crate::walk::{distances, first_walk};
 use plan_slab::Slabs;
 use std::alloc::Global;
 use std::marker::Model;
@@ -59,7 +62,12 @@ impl Map {
             (¬ (AreJoined (AreNeighbours (slabs_of self.now) (regions_of self.now)) from.number to.number))
             (λ walk. IsFirstWalk (AreNeighbours (slabs_of self.now) (regions_of self.now)) from.number to.number walk.regions.items)) }
     {
-        Err(NoMemory)
+        let rows = self.slabs.rows();
+        let distances = distances(alloc, rows, to.number)?;
+        match first_walk(alloc, rows, &distances, from.number, to.number)? {
+            Some(regions) => Ok(Some(Walk { regions })),
+            None => Ok(None),
+        }
     }
 
     /// The numbers of all regions that a walk joins to this one, itself among them, rising. It must be a region of this
@@ -68,13 +76,15 @@ impl Map {
         requires { region.number < length (regions_of self.now) }
         ensures { IfOk result (λ found. IsComponent (AreNeighbours (slabs_of self.now) (regions_of self.now)) region.number found.items) }
     {
-        Err(NoMemory)
+        let found = component(alloc, self.slabs.rows(), region.number)?;
+        Ok(found)
     }
 
     /// Of each region a number which those that walks join to it share, and no others: the least of theirs.
     pub fn labels(&self, alloc: Global) -> Result<Vec<u32>, NoMemory>
         ensures { IfOk result (λ labels. AreLabels (AreNeighbours (slabs_of self.now) (regions_of self.now)) (length (regions_of self.now)) labels.items) }
     {
-        Err(NoMemory)
+        let found = labels(alloc, self.slabs.rows())?;
+        Ok(found)
     }
 }

@@ -34,8 +34,8 @@ pub fn spread(
     Ok(())
 }
 
-// Measures a region that is not measured yet, and notes it as seen.
-fn visit(
+/// Measures a region that is not measured yet, and notes it as seen.
+pub fn visit(
     seen: &mut Vec<u32>,
     distances: &mut Vec<Option<u32>>,
     region: u32,

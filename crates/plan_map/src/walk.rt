@@ -6,8 +6,9 @@ ghost use Rattle.plan_map.specs.Distances.{AreDistances};
 ghost use Rattle.plan_map.specs.Search.{at};
 ghost use Rattle.plan_map.specs.Row.{in_row, AreRows};
 
-use crate::row::Row;
+use crate::neighbours;
 use crate::search::unmeasured;
+use plan_slab::Row;
 use std::alloc::{AllocError, Global};
 
 /// The distance of each region from the goal, in steps, where a walk leads to it.
@@ -25,7 +26,7 @@ pub fn distances(alloc: Global, rows: &[Row], goal: u32) -> Result<Vec<Option<u3
     while head < seen.len() {
         let region = seen[head];
         if let Some(steps) = distances[region as usize] {
-            rows[region as usize].spread(&mut seen, &mut distances, steps + 1)?;
+            neighbours::spread(&rows[region as usize], &mut seen, &mut distances, steps + 1)?;
         }
         head += 1;
     }
@@ -54,7 +55,7 @@ pub fn first_walk(
     let mut here = start;
     let mut left = steps;
     while left > 0 {
-        let Some(next) = rows[here as usize].first_nearer(distances, left - 1) else {
+        let Some(next) = neighbours::first_nearer(&rows[here as usize], distances, left - 1) else {
             return Ok(None);
         };
         taken.push(next)?;

@@ -20,9 +20,13 @@ turned next both_ways n r (m ∷ ns) (step, rest) =
     let (ms, back) = turned next both_ways n m ns rest in
     (ms ++ r ∷ [], longer next m r n ms back (both_ways r m step))
 
-leads_of : (next : ℕ → ℕ → Type 0) (m n : ℕ) → AreJoined next m n → (ns : List ℕ) × Leads next n m ns
+pub leads_of : (next : ℕ → ℕ → Type 0) (m n : ℕ) → AreJoined next m n → (ns : List ℕ) × Leads next n m ns
 leads_of next m n ([], w) = absurd w
 leads_of next m n (k ∷ ks, (e, leads)) = (ks, subst (λ k. Leads next n k ks) e leads)
+
+-- a walk may go on to a neighbour
+pub one_step_on : (next : ℕ → ℕ → Type 0) (m n k : ℕ) → AreJoined next m n → next n k → AreJoined next m k
+one_step_on next m n k j step = let (ns, leads) = leads_of next m n j in (m ∷ (ns ++ k ∷ []), (refl, longer next n k m ns leads step))
 
 -- ---- distances tell whether a walk leads to the goal
 pub not_joined : {next : ℕ → ℕ → Type 0} {goal : ℕ} {dist : ℕ → Option ℕ} → AreDistances next goal dist → (r : ℕ) → dist r ≡ None → ¬ (AreJoined next r goal)

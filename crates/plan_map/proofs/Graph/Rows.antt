@@ -4,7 +4,7 @@ use Rattle.std.proofs.lemmas.Bool.{cases_lt}
 use Rattle.std.proofs.lemmas.List.{get_or_append_left, get_or-append_right, length-append}
 use Rattle.std.proofs.lemmas.List.FromFn.{length-range_with_len}
 use Rattle.std.proofs.lemmas.List.Elements.{All-append}
-use Rattle.plan_map.specs.declared.row.Row.{Row}
+use Rattle.plan_slab.specs.declared.row.Row.{Row}
 use Rattle.plan_map.specs.Row.{numbers_of, no_row, in_row, AreRows}
 use Rattle.plan_map.specs.Search.{IsRow, IsFirstOf, numbers}
 use Rattle.plan_map.proofs.Graph.Numbers.{number_at}

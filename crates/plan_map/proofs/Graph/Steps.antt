@@ -193,14 +193,17 @@ begun next count goal h = record {
     zero_at k d hk e = same_some d 0 (sym e ∙ ap dist (one k hk) ∙ here)
 
 -- ---- never more than there is
-pub bounded : {next : ℕ → ℕ → Type 0} {count goal : ℕ} {seen : List ℕ} {head : ℕ} {dist : List (Option ℕ)} → IsSearch next count goal seen head dist → length seen ≤ count
-bounded {count = count} {seen = seen} s = length-le_from_distinct_below seen count (IsDistinct-from_AllPairs Decides-eqb seen apart) below
+pub few_distinct : (seen : List ℕ) (count : ℕ) → ((i j : ℕ) → i < j → j < length seen → ¬ (nth seen i ≡ nth seen j)) → ((k : ℕ) → k < length seen → nth seen k < count) → length seen ≤ count
+few_distinct seen count once each = length-le_from_distinct_below seen count (IsDistinct-from_AllPairs Decides-eqb seen apart) below
   where
     apart : AllPairs (λ x y. x ≢ y) seen
-    apart i j d h l e = s.once i j h l (get_or_default seen i 0 d (omega arith) ∙ e ∙ get_or_default seen j d 0 l)
+    apart i j d h l e = once i j h l (get_or_default seen i 0 d (omega arith) ∙ e ∙ get_or_default seen j d 0 l)
 
     below : (q : ℕ) → list_any (eqb q) seen ≡ true → q < count
     below q e =
         let a = Any-from_list_any (eqb q) seen e in
         let same : q ≡ a.1 = eqb-true q a.1 a.4 in
-        omega (arith, s.below a.0 a.2, get_or_default seen a.0 0 a.1 a.2 ∙ a.3, same)
+        omega (arith, each a.0 a.2, get_or_default seen a.0 0 a.1 a.2 ∙ a.3, same)
+
+pub bounded : {next : ℕ → ℕ → Type 0} {count goal : ℕ} {seen : List ℕ} {head : ℕ} {dist : List (Option ℕ)} → IsSearch next count goal seen head dist → length seen ≤ count
+bounded {count = count} {seen = seen} s = few_distinct seen count s.once s.below
