@@ -1,3 +1,3 @@
 pub mod Laws
-pub mod Ring
+pub mod Grown
 pub mod Alike

@@ -3,7 +3,7 @@
 
 pub mod laws;
 mod no_memory;
-mod ring;
+mod outline;
 
 pub use no_memory::NoMemory;
-pub use ring::ring;
+pub use outline::ring;

@@ -1,6 +1,6 @@
 ghost use Rattle.std.specs.Prelude.{◌≡◌, ◌+◌, ◌<◌, [], ◌≤◌, suc, length, get_or, All, AllPairs};
 ghost use Rattle.plan_spec.specs.Regions as spec;
-ghost use Rattle.plan_spec.specs.Regions.{mediant};
+ghost use Rattle.plan_spec.specs.Regions.{mediant, IsLot};
 ghost use Rattle.plan_spec.specs.Slabs.{size, line_at};
 ghost use Rattle.plan_spec.specs.Neighbours.{on_left, on_right};
 ghost use Rattle.plan_slab.specs.Ends.{AreNeighbourRows};
@@ -163,7 +163,8 @@ impl Slabs {
     /// The cell or wall that is the region of that number.
     pub fn lot_of(&self, region: u32) -> Lot
         requires { region < length (regions_of self.now) }
-        ensures { lot_seen result ≡ spec.region_at (regions_of self.now) region }
+        ensures value { lot_seen result ≡ spec.region_at (regions_of self.now) region }
+        ensures lot { IsLot (slabs_of self.now) (lot_seen result) }
     {
         self.lots[region as usize]
     }

@@ -1,6 +1,6 @@
 ghost use Rattle.std.specs.Prelude.{◌<◌, length, IfOk};
 ghost use Rattle.plan_slab.specs.Subdivision.{slabs_of, regions_of};
-ghost use Rattle.plan_ring.specs.Ring.{IsRingOf};
+ghost use Rattle.plan_ring.specs.Grown.{IsRingOf};
 
 use crate::no_memory::NoMemory;
 use plan_cross::Chain;

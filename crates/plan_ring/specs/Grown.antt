@@ -1,0 +1,26 @@
+-- Chains by the positions of their ends, and what has been added to one.
+use Rattle.std.specs.Prelude.{ℕ, List, ◌++◌, map}
+use Rattle.std.specs.List.{AllZip}
+use Rattle.plan_spec.specs.Vector.{Same}
+use Rattle.plan_spec.specs.Segment as spec
+use Rattle.plan_spec.specs.Neighbours.{AreNeighbours}
+use Rattle.plan_spec.specs.Regions.{Lot}
+use Rattle.plan_spec.specs.Rings.{ring}
+use Rattle.plan_spec.specs.Slabs.{Slabs}
+use Rattle.plan_spec.specs.Walks.{IsComponent}
+use Rattle.plan_cross.specs.declared.segment.Segment.{Segment}
+use Rattle.plan_cross.specs.Segment.{segment_seen}
+
+-- end by end the same positions
+abbrev pub AreAlike : List spec.Segment → List spec.Segment → Type 0
+AreAlike = AllZip (λ s t. Same s.a t.a × Same s.b t.b)
+
+-- the new list is the old one with these segments behind it
+abbrev pub HasAdded : List Segment → List Segment → List spec.Segment → Type 0
+HasAdded old new ss = (before : List spec.Segment) → AreAlike (map segment_seen old) before → AreAlike (map segment_seen new) (before ++ ss)
+
+-- end by end the ring of the component of region m
+pub record IsRingOf (σ : Slabs) (found : List Lot) (m : ℕ) (chain : List spec.Segment) : Type 0 where
+  pub component : List ℕ
+  pub is_component : IsComponent (AreNeighbours σ found) m component
+  pub is_ring : AreAlike chain (ring σ found component)
