@@ -4,6 +4,7 @@
 mod component;
 mod labels;
 pub mod laws;
+mod locate;
 mod map;
 mod neighbours;
 mod no_memory;

@@ -78,6 +78,7 @@ impl Slabs {
     /// The event lines, rising. A slab has the number of the line on its left.
     pub fn lines(&self) -> &[Ratio]
         ensures value { result.now ≡ self.now.lines }
+        ensures count { length result.now ≤ 131072 }
         ensures each { All IsLine result.now }
     {
         &self.lines
@@ -98,6 +99,7 @@ impl Slabs {
     pub fn marks(&self, line: u32) -> &[Ratio]
         requires { line < length self.now.lines }
         ensures value { result.now ≡ get_or self.now.marks line [] }
+        ensures count { length result.now ≤ 131072 }
         ensures on_line { (d : Fraction) → All (IsHeightOn (get_or self.now.lines line d)) result.now }
     {
         &self.marks[line as usize]

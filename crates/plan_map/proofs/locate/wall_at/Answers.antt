@@ -1,0 +1,15 @@
+-- The wall above the mark below the spot holds it.
+use Rattle.std.proofs.Common.{arith}
+use Rattle.plan_grid.specs.Spot.{spot_seen}
+use Rattle.plan_map.proofs.Location.ByNumber.{line_count, spot_point}
+use Rattle.plan_map.proofs.Location.Lots.{no_wall, wall_holds}
+use Rattle.plan_map.proofs.locate.wall_at.Goals as goal
+
+pub returns-in_err-at-clause-holds : goal.returns-in_err-at-clause-holds
+returns-in_err-at-clause-holds c = λ placed on.
+    rw c.from_residual.ensures
+    (no_wall placed (spot_seen c.args.spot) (spot_point c.args.spot) c.args.line (omega (arith, c.requires.line, line_count c.args.slabs.now)) on (c.in_err-at.ensures.below placed))
+
+pub returns-clause-holds : goal.returns-clause-holds
+returns-clause-holds c = λ placed on.
+    wall_holds placed (spot_seen c.args.spot) (spot_point c.args.spot) c.args.line (omega (arith, c.requires.line, line_count c.args.slabs.now)) on c.in_ok-at.at (c.in_ok-at.ensures.below placed)
