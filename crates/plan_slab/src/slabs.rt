@@ -131,6 +131,10 @@ impl Slabs {
         requires at { at < length (get_or self.now.spans slab []) }
         ensures left { result.0 ≡ on_left (slabs_of self.now) slab at }
         ensures right { result.1 ≡ on_right (slabs_of self.now) slab at }
+        ensures left_mark { result.0 < length (get_or self.now.marks slab []) }
+        ensures right_mark { result.1 < length (get_or self.now.marks (slab + 1) []) }
+        ensures few_lines { length self.now.lines ≤ 131072 }
+        ensures few_spans { length (get_or self.now.spans slab []) ≤ 131072 }
     {
         self.ends[slab as usize][at as usize]
     }
