@@ -1,4 +1,16 @@
--- Two maps of one scene are the same by position, and so are two answers that are given.
+-- All ways to write the sums of one scene, and the pieces that they leave, are alike: the same place by place, by position. So two maps of one scene are the same by position, and so are two answers that are given.
+pub mod Order
+pub mod Zipped
+pub mod Vertices
+pub mod Polygon
+pub mod Bounded
+pub mod Floor
+pub mod OneRoom
+pub mod Boundary
+pub mod Along
+pub mod Parts
+pub mod Pieces
+pub mod OfScene
 pub mod SlabsLists
 pub mod Slabs
 pub mod RegionsTurns
