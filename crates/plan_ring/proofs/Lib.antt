@@ -15,3 +15,4 @@ pub mod Component
 pub mod ByPosition
 pub mod Reach
 pub mod OneKind
+pub mod Alike

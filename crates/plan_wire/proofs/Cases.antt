@@ -1,13 +1,14 @@
 -- The definition of documents, tried on texts: each line computes.
-use Rattle.std.specs.Prelude.{◌≡◌, ⊤, ℕ, pos, neg_ℤ, ◌++◌, List, [], ◌∷◌, codes, Ok, Err, refl}
+use Rattle.std.specs.Prelude.{◌≡◌, ⊤, ℕ, ℤ, pos, neg_ℤ, ◌++◌, List, [], ◌∷◌, codes, Ok, Err, refl}
 use Rattle.std.specs.Str.{is_utf8, chars}
 use Rattle.std.specs.Fmt.{digits}
 use Rattle.serde_json.specs.Read.{read}
 use Rattle.serde_json.proofs.OnLiterals.{serde_json_on_literals}
-use Rattle.plan_spec.specs.Vector.{spot}
+use Rattle.plan_spec.specs.Vector.{Vector, spot}
 use Rattle.plan_spec.specs.Segment.{segment}
 use Rattle.plan_wire.specs.Reading.{Read, Reader, json, form, range, bind, made, some_or, integer, whole, elements, object}
-use Rattle.plan_wire.specs.Documents.{path, remove, spot_of, robot_of, shape_of, frame_of, id_of, obstacle_of, obstacles_of, query_of, queries_of, edit_of, edits_of, lanes_of, round_of, gcd, lowest, point_at, point_of, segment_of, certificate_of, task_of, value_of, document_of}
+use Rattle.plan_wire.specs.Documents.{path, chain, remove, spot_of, robot_of, shape_of, frame_of, id_of, obstacle_of, obstacles_of, query_of, queries_of, edit_of, edits_of, lanes_of, round_of, gcd, lowest, point_at, point_of, segment_of, certificate_of, task_of, value_of, document_of}
+use Rattle.plan_wire.specs.CertificateText.{certificate_text}
 use Rattle.plan_wire.specs.declared.documents.Want.{Want}
 use Rattle.plan_wire.specs.declared.documents.Want.TheVariants.{Plan, Session, Check}
 
@@ -443,3 +444,22 @@ an_empty_document = refl
 no_text : doc Plan (34 ∷ 255 ∷ 34 ∷ []) ≡ Err json
 unfolding on_literals
 no_text = refl
+
+-- ---- the texts of certificates
+
+abbrev at : ℤ → ℤ → ℤ → Vector
+at x y w = record { x = x; y = y; w = w }
+
+text_of_a_path : certificate_text (path (spot (pos 2) (pos 2) ∷ spot (pos 5) (pos 5) ∷ [])) ≡ codes "{\"path\":[[2,2,1],[5,5,1]]}"
+unfolding on_literals
+text_of_a_path = refl
+
+text_of_a_chain : certificate_text (chain (segment (at (neg_ℤ (pos 10)) (pos 0) (pos 3)) (at (pos 1) (neg_ℤ (pos 2046)) (pos 1)) ∷ [])) ≡ codes "{\"chain\":[[-10,0,3,1,-2046,1]]}"
+unfolding on_literals
+text_of_a_chain = refl
+
+text_of_an_empty_path : certificate_text (path []) ≡ codes "{\"path\":[]}"
+text_of_an_empty_path = refl
+
+text_of_an_empty_chain : certificate_text (chain []) ≡ codes "{\"chain\":[]}"
+text_of_an_empty_chain = refl

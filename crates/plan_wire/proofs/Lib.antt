@@ -8,3 +8,5 @@ pub mod Points
 pub mod Six
 pub mod Tokens
 pub mod Lengths
+pub mod Puts
+pub mod ReadBack

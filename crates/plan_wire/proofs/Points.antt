@@ -1,5 +1,5 @@
 -- The point of three numbers, where one is made of them, is that of the definition: both are in lowest terms and at one position.
-use Rattle.std.proofs.Common.{◌≡◌, ℕ, zero, suc, ◌*◌, ◌%◌, ◌<◌, ◌^◌, ℤ, pos, negsuc, neg_ℤ, ◌*ℤ◌, ◌≤ℤ◌, ◌<ℤ◌, unsigned_abs, int_le, nat_le, Bool, true, false, ◌&&◌, Option, Some, None, IsNone, IfSome, ◌⊎◌, inl, inr, ◌↔◌, rules, cond, refl, ap, arith}
+use Rattle.std.proofs.Common.{◌≡◌, ℕ, zero, suc, ◌*◌, ◌%◌, ◌<◌, ◌^◌, ℤ, pos, negsuc, neg_ℤ, ◌*ℤ◌, ◌≤ℤ◌, ◌<ℤ◌, unsigned_abs, int_le, nat_le, Bool, true, false, ◌&&◌, Option, Some, None, IsNone, IfSome, ◌⊎◌, inl, inr, ◌↔◌, rules, cond, refl, sym, ap, arith}
 use Rattle.std.specs.Int.{IsGcd, ◌∣◌}
 use Rattle.std.specs.Int.RustNames.{int_div, int_rem}
 use Rattle.std.proofs.lemmas.Int.{ints, quot-rem}
@@ -120,3 +120,9 @@ point_in_range x y w p h =
     let b = where_point q c.0 in
     let r = reduced q b in
     rw (← c.1) (reduced_is_in_range q (lowest q) r.0 r.1 b)
+
+-- a point in range is made of its own numbers
+pub point_at_itself : (p : Vector) → IsInRange p → point_at p.x p.y p.w ≡ Some p
+point_at_itself p h =
+    let b : IsBounded (2 ^ 51) p = record { weight = h.weight; weight_bounded = h.weight_bounded; x_bounded = h.x_bounded; y_bounded = h.y_bounded } in
+    sym (is_point_at p.x p.y p.w (Some p) (λ none. absurd cc, λ beyond. absurd (beyond_is_none p b beyond)) (refl, refl) h)

@@ -5,3 +5,5 @@ pub mod Documents
 pub mod Place
 pub mod Seen
 pub mod Bounds
+pub mod CertificateText
+pub mod ReadBack

@@ -1,3 +1,4 @@
 mod faults;
+mod prints;
 mod streams;
 mod values;

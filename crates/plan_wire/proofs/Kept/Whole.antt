@@ -73,7 +73,7 @@ obstacles_kept place v d os small h is =
     let k = few ShapeFits obstacle_of shape_seen obstacle_kept _ w d.obstacles.items (read ∙ ap Ok is) in
     record { few = omega (arith, k.0, member_has_fewer (codes "obstacles") v w found); each = k.1 })
 
-object_is : (place : List ℕ) (v w : Data) → object place v ≡ Ok w → v ≡ w
+pub object_is : (place : List ℕ) (v w : Data) → object place v ≡ Ok w → v ≡ w
 unfolding object
 object_is place v w h = (tested_ok (λ u. is_some (as_object u)) (form place) v w h).1
 
