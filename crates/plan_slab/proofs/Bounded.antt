@@ -1,5 +1,5 @@
 -- How large feet of strands and points halfway are.
-use Rattle.std.proofs.Common.{◌≡◌, List, [], ◌∷◌, ℕ, ◌+◌, ◌*◌, ◌≤◌, ◌^◌, ℤ, pos, ◌+ℤ◌, ◌-ℤ◌, ◌*ℤ◌, ◌≤ℤ◌, ◌<ℤ◌, neg_ℤ, ap, ap₂, arith}
+use Rattle.std.proofs.Common.{◌≡◌, List, [], ◌∷◌, ℕ, ◌+◌, ◌*◌, ◌≤◌, ◌^◌, ℤ, pos, ◌+ℤ◌, ◌-ℤ◌, ◌*ℤ◌, ◌≤ℤ◌, ◌<ℤ◌, neg_ℤ, subst, ap, ap₂, arith}
 use Rattle.std.specs.Int.RustNames.{unsigned_abs}
 use Rattle.std.proofs.lemmas.Int.{ints, unsigned_abs-mul}
 use Rattle.plan_exact.specs.Expr.{Expr, con, ◌⊕◌, ◌⊗◌}
@@ -7,7 +7,7 @@ use Rattle.plan_exact.specs.Formal as F
 use Rattle.plan_exact.specs.Formal.{A, B, C}
 use Rattle.plan_exact.specs.Vectors.{Vector, env}
 use Rattle.plan_exact.proofs.Ring.{ring}
-use Rattle.plan_exact.proofs.Laws.{linear, add_mul, neg_mul}
+use Rattle.plan_exact.proofs.Laws.{linear, add_mul, neg_mul, mul_comm}
 use Rattle.plan_exact.proofs.Signs.{mul_pos}
 use Rattle.plan_exact.proofs.Sizes.{product_at_most}
 use Rattle.plan_spec.specs.Regions.{foot, halfway}
@@ -16,7 +16,7 @@ use Rattle.plan_grid.specs.Fraction.{Fraction, point_at}
 use Rattle.plan_slab.specs.EventLines.{IsLine}
 use Rattle.plan_grid.specs.Bounds.{IsBounded}
 use Rattle.plan_slab.specs.declared.strand.Strand.{Strand}
-use Rattle.plan_slab.specs.Heights.{IsOver}
+use Rattle.plan_slab.specs.Heights.{IsOver, IsHeight}
 use Rattle.plan_slab.specs.Seen.{strand_seen}
 
 -- a sum of two products
@@ -140,6 +140,9 @@ between_bounded l p q hl hq bq hp = record {
 
     wide_y : unsigned_abs (l.den *ℤ p) ≤ 2046 * unsigned_abs (l.den *ℤ q)
     wide_y = omega (arith, unsigned_abs-mul l.den p, unsigned_abs-mul l.den q, product_at_most (unsigned_abs l.den) (unsigned_abs p) (unsigned_abs l.den) (2046 * unsigned_abs q) (omega arith) hp)
+
+pub point_bounded : (l f : Fraction) → IsLine l → IsHeight f → IsBounded (2 ^ 100) (point_at l f)
+point_bounded l f hl hf = subst (λ y. IsBounded (2 ^ 100) (record { x = l.num *ℤ f.den; y = y; w = l.den *ℤ f.den })) (mul_comm l.den f.num) (between_bounded l f.num f.den hl hf.ratio.positive (omega (arith, hf.bounded)) hf.ratio.num_bounded)
 
 pub between_same : (l m n : Fraction) → Same (on_line_by l (m.num *ℤ n.den +ℤ n.num *ℤ m.den) (pos 2 *ℤ (m.den *ℤ n.den))) (halfway (point_at l m) (point_at l n))
 between_same l m n = (

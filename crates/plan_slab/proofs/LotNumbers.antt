@@ -1,19 +1,19 @@
 -- Regions rise by their keys, so the numbers of lots are found by a binary search.
-use Rattle.std.proofs.Common.{◌≡◌, ◌⊎◌, inl, inr, ⊎_elim, ℕ, ◌<◌, ◌≤◌, pos, true, false, ltb, ltb-true, ltb-false, List, [], ◌∷◌, map, length, get_or, Contains, refl, sym, ap, ◌∙◌, subst, eq-or-lt_of_le, arith}
+use Rattle.std.proofs.Common.{◌≡◌, ◌⊎◌, inl, inr, ⊎_elim, ℕ, ◌<◌, ◌≤◌, pos, true, false, ltb, ltb-true, ltb-false, List, [], ◌∷◌, map, length, get_or, All, AllPairs, Contains, refl, sym, ap, ◌∙◌, subst, eq-or-lt_of_le, arith}
 use Rattle.std.specs.List.Sorted.{IsPartitionPoint, IsNonDecreasingBy}
 use Rattle.std.proofs.lemmas.List.{get_or-map, length-map}
-use Rattle.std.proofs.lemmas.Bool.{cases_order}
+use Rattle.std.proofs.lemmas.Bool.{cases_order, cases_lt}
 use Rattle.plan_spec.specs.Regions as spec
 use Rattle.plan_spec.specs.Regions.{IsLot, cell, wall}
 use Rattle.plan_grid.specs.Fraction.{Fraction}
 use Rattle.plan_slab.specs.declared.lot.Lot.{Lot}
 use Rattle.plan_slab.specs.declared.lot.Lot.TheVariants.{Cell, Wall}
-use Rattle.plan_slab.specs.LotKeys.{key}
+use Rattle.plan_slab.specs.LotKeys.{key, IsFirstFrom, AreBetween}
 use Rattle.plan_slab.specs.LotOrder.{index, Earlier}
 use Rattle.plan_slab.specs.Seen.{lot_seen, strand_seen}
 use Rattle.plan_grid.specs.Fraction.{point_at}
 use Rattle.plan_slab.specs.SlabsSeen.{rows_seen}
-use Rattle.plan_slab.specs.Subdivision.{Subdivision, IsSubdivision, regions_of, slabs_of, IsFirstFrom}
+use Rattle.plan_slab.specs.Subdivision.{Subdivision, IsSubdivision, regions_of, slabs_of}
 use Rattle.plan_slab.proofs.SlabsSeen.{rows_at}
 
 -- ---- keys
@@ -21,7 +21,7 @@ use Rattle.plan_slab.proofs.SlabsSeen.{rows_at}
 key_less : (a b : spec.Lot) → index a < 131072 → Earlier a b → key a < key b
 key_less a b small h = ⊎_elim (λ lt. omega (arith, lt)) (λ e. omega (arith, e.0, e.1)) h.earlier
 
-rows_length : (ls : List Fraction) (rows : List (List Fraction)) → length (rows_seen ls rows) ≤ length rows
+pub rows_length : (ls : List Fraction) (rows : List (List Fraction)) → length (rows_seen ls rows) ≤ length rows
 rows_length [] rows = omega arith
 rows_length (l ∷ ls) [] = omega arith
 rows_length (l ∷ ls) (ms ∷ rows) = omega (arith, rows_length ls rows)
@@ -43,48 +43,67 @@ unseen_seen (Wall k j) = refl
 seen_apart : (a b : Lot) → lot_seen a ≡ lot_seen b → a ≡ b
 seen_apart a b e = sym (unseen_seen a) ∙ ap unseen e ∙ unseen_seen b
 
-module _ (s : Subdivision) (h : IsSubdivision s) where
-  small : (lot : spec.Lot) → IsLot (slabs_of s) lot → index lot < 131072
-  small (cell k i) (hk, hi) =
-      let here : k < length s.spans = omega (arith, hk, length-map s.spans (map strand_seen)) in
-      let e = get_or-map (map strand_seen) s.spans k [] [] here in
-      omega (arith, hi, ap length e, length-map (get_or s.spans k []) strand_seen, h.rows.few_spans k [] here)
-  small (wall k j) (hk, hj) =
-      let here : k < length s.marks = omega (arith, hk, rows_length s.lines s.marks) in
-      let zero_line : Fraction = record { num = pos 0; den = pos 0 } in
-      let e = rows_at s.lines s.marks k zero_line (omega (arith, hk, rows_length_lines s.lines s.marks)) here in
-      omega (arith, hj, ap length e, length-map (get_or s.marks k []) (point_at (get_or s.lines k zero_line)), h.rows.few_marks k [] here)
+pub small : (s : Subdivision) → IsSubdivision s → All (λ lot. index lot < 131072) (regions_of s)
+small s h n d within = by (get_or (regions_of s) n d) (h.lots n d within)
+  where
+    by : (lot : spec.Lot) → IsLot (slabs_of s) lot → index lot < 131072
+    by (cell k i) (hk, hi) =
+        let here : k < length s.spans = omega (arith, hk, length-map s.spans (map strand_seen)) in
+        let e = get_or-map (map strand_seen) s.spans k [] [] here in
+        omega (arith, hi, ap length e, length-map (get_or s.spans k []) strand_seen, h.rows.few_spans k [] here)
+    by (wall k j) (hk, hj) =
+        let here : k < length s.marks = omega (arith, hk, rows_length s.lines s.marks) in
+        let zero_line : Fraction = record { num = pos 0; den = pos 0 } in
+        let e = rows_at s.lines s.marks k zero_line (omega (arith, hk, rows_length_lines s.lines s.marks)) here in
+        omega (arith, hj, ap length e, length-map (get_or s.marks k []) (point_at (get_or s.lines k zero_line)), h.rows.few_marks k [] here)
 
-  rises : (i j : ℕ) (d : spec.Lot) → i < j → j < length (regions_of s) → key (get_or (regions_of s) i d) < key (get_or (regions_of s) j d)
-  rises i j d less within = key_less (get_or (regions_of s) i d) (get_or (regions_of s) j d) (small (get_or (regions_of s) i d) (h.lots i d (omega arith))) (h.rising i j d less within)
+-- ---- the search
+pub first_from : (lots : List Lot) (least n : ℕ) → n ≤ length lots → IsPartitionPoint (λ lot. ltb (key (lot_seen lot)) least ≡ true) (λ lot. ltb (key (lot_seen lot)) least ≡ false) lots n → IsFirstFrom (map lot_seen lots) least n
+first_from lots least n bound p = record {
+  within = omega (arith, bound, length-map lots lot_seen);
+  before = λ k d less. let e = get_or-map lot_seen lots k (unseen d) d (omega (arith, less, bound)) in omega (arith, ap key e, ltb-true _ _ (p.0 k (unseen d) (omega arith) less));
+  from = λ k d more within. let here : k < length lots = omega (arith, within, length-map lots lot_seen) in let e = get_or-map lot_seen lots k (unseen d) d here in omega (arith, ap key e, ltb-false _ _ (p.1 k (unseen d) more here));
+}
 
-  pub keys_rise : IsNonDecreasingBy (λ lot. key (lot_seen lot)) s.lots
-  keys_rise i j d less within = ⊎_elim (λ e. let f = ap (λ k. key (lot_seen (get_or s.lots k d))) e in omega (arith, f)) (λ lt. by lt) (eq-or-lt_of_le less)
+-- the lots between two of these numbers
+pub between : (found : List spec.Lot) (low high a b : ℕ) → IsFirstFrom found low a → IsFirstFrom found high b → AreBetween found low high a b
+between found low high a b from to n = (
+  λ h. (omega (arith, h.1, to.within), from.from n (cell 0 0) h.0 (omega (arith, h.1, to.within)), to.before n (cell 0 0) h.1),
+  λ h. (
+    elim (cases_lt n a) [
+      | inl less ↦ absurd (omega (arith, from.before n (cell 0 0) less, h.1))
+      | inr more ↦ more
+    ],
+    elim (cases_lt n b) [
+      | inl less ↦ less
+      | inr more ↦ absurd (omega (arith, to.from n (cell 0 0) more h.0, h.2))
+    ],
+  ),
+)
+
+module _ (lots : List Lot) (few : All (λ lot. index lot < 131072) (map lot_seen lots)) (rising : AllPairs Earlier (map lot_seen lots)) where
+  rises : (i j : ℕ) (d : spec.Lot) → i < j → j < length (map lot_seen lots) → key (get_or (map lot_seen lots) i d) < key (get_or (map lot_seen lots) j d)
+  rises i j d less within = key_less (get_or (map lot_seen lots) i d) (get_or (map lot_seen lots) j d) (few i d (omega arith)) (rising i j d less within)
+
+  pub keys_rise : IsNonDecreasingBy (λ lot. key (lot_seen lot)) lots
+  keys_rise i j d less within = ⊎_elim (λ e. let f = ap (λ k. key (lot_seen (get_or lots k d))) e in omega (arith, f)) (λ lt. by lt) (eq-or-lt_of_le less)
     where
-      at : (k : ℕ) → k < length s.lots → get_or (regions_of s) k (lot_seen d) ≡ lot_seen (get_or s.lots k d)
-      at k below = get_or-map lot_seen s.lots k d (lot_seen d) below
+      at : (k : ℕ) → k < length lots → get_or (map lot_seen lots) k (lot_seen d) ≡ lot_seen (get_or lots k d)
+      at k below = get_or-map lot_seen lots k d (lot_seen d) below
 
-      by : i < j → key (lot_seen (get_or s.lots i d)) ≤ key (lot_seen (get_or s.lots j d))
-      by lt = omega (arith, ap key (at i (omega arith)), ap key (at j within), rises i j (lot_seen d) lt (omega (arith, within, length-map s.lots lot_seen)))
+      by : i < j → key (lot_seen (get_or lots i d)) ≤ key (lot_seen (get_or lots j d))
+      by lt = omega (arith, ap key (at i (omega arith)), ap key (at j within), rises i j (lot_seen d) lt (omega (arith, within, length-map lots lot_seen)))
 
-  -- ---- the search
-  pub first_from : (least n : ℕ) → n ≤ length s.lots → IsPartitionPoint (λ lot. ltb (key (lot_seen lot)) least ≡ true) (λ lot. ltb (key (lot_seen lot)) least ≡ false) s.lots n → IsFirstFrom s least n
-  first_from least n bound p = record {
-    within = omega (arith, bound, length-map s.lots lot_seen);
-    before = λ k d less. let e = get_or-map lot_seen s.lots k (unseen d) d (omega (arith, less, bound)) in omega (arith, ap key e, ltb-true _ _ (p.0 k (unseen d) (omega arith) less));
-    from = λ k d more within. let here : k < length s.lots = omega (arith, within, length-map s.lots lot_seen) in let e = get_or-map lot_seen s.lots k (unseen d) d here in omega (arith, ap key e, ltb-false _ _ (p.1 k (unseen d) more here));
-  }
-
-  pub no_number : (lot : Lot) (n : ℕ) → IsFirstFrom s (key (lot_seen lot)) n → (n < length s.lots → ¬ (get_or s.lots n lot ≡ lot)) → ¬ (Contains (regions_of s) (lot_seen lot))
+  pub no_number : (lot : Lot) (n : ℕ) → IsFirstFrom (map lot_seen lots) (key (lot_seen lot)) n → (n < length lots → ¬ (get_or lots n lot ≡ lot)) → ¬ (Contains (map lot_seen lots) (lot_seen lot))
   no_number lot n first off (k, within, is) = by (cases_order k n)
     where
       d : spec.Lot
       d = lot_seen lot
 
-      here : key (get_or (regions_of s) k (lot_seen lot)) ≡ key (lot_seen lot)
+      here : key (get_or (map lot_seen lots) k (lot_seen lot)) ≡ key (lot_seen lot)
       here = ap key is
 
       by : (k ≡ n) ⊎ ((k < n) ⊎ (n < k)) → ⊥
-      by (inl e) = off (omega (arith, e, within, length-map s.lots lot_seen)) (seen_apart (get_or s.lots n lot) lot (sym (get_or-map lot_seen s.lots n lot d (omega (arith, e, within, length-map s.lots lot_seen))) ∙ subst (λ i. get_or (regions_of s) i d ≡ d) e is))
+      by (inl e) = off (omega (arith, e, within, length-map lots lot_seen)) (seen_apart (get_or lots n lot) lot (sym (get_or-map lot_seen lots n lot d (omega (arith, e, within, length-map lots lot_seen))) ∙ subst (λ i. get_or (map lot_seen lots) i d ≡ d) e is))
       by (inr (inl less)) = absurd (omega (arith, here, first.before k d less))
       by (inr (inr more)) = absurd (omega (arith, here, first.from n d (omega arith) (omega (arith, more, within)), rises n k d more within))

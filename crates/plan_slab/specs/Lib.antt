@@ -18,4 +18,5 @@ pub mod Rungs
 pub mod Sweeps
 pub mod LotKeys
 pub mod Ends
+pub mod NextTo
 pub mod Subdivision

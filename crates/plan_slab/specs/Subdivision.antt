@@ -12,7 +12,6 @@ use Rattle.plan_slab.specs.Decomposition.{AreInOrder, IsPlaced}
 use Rattle.plan_slab.specs.Ends.{AreEnds, AreNeighbourRows}
 use Rattle.plan_slab.specs.FreeLots.{AreRows}
 use Rattle.plan_slab.specs.Heights.{IsHeightOn}
-use Rattle.plan_slab.specs.LotKeys.{key}
 use Rattle.plan_slab.specs.LotOrder.{Earlier}
 use Rattle.plan_slab.specs.Seen.{lot_seen}
 use Rattle.plan_slab.specs.SlabsSeen.{slabs_seen}
@@ -46,12 +45,6 @@ pub record IsSubdivision (s : Subdivision) : Type 0 where
 -- Some n where region n is the lot, and None where none is
 abbrev pub IsNumberOf : Subdivision → spec.Lot → Option ℕ → Type 0
 IsNumberOf s lot n = MatchOption n (¬ (Contains (regions_of s) lot)) (λ k. (k < length (regions_of s)) × (spec.region_at (regions_of s) k ≡ lot))
-
--- lots below that number have lesser keys, and the others have not
-pub record IsFirstFrom (s : Subdivision) (least n : ℕ) : Type 0 where
-  pub within : n ≤ length (regions_of s)
-  pub before : (k : ℕ) (d : spec.Lot) → k < n → key (get_or (regions_of s) k d) < least
-  pub from : (k : ℕ) (d : spec.Lot) → n ≤ k → k < length (regions_of s) → least ≤ key (get_or (regions_of s) k d)
 
 -- what is kept beside it: the marks in which spans meet their lines, and the neighbours of regions
 pub record IsKept (s : Subdivision) (met : List (List (ℕ × ℕ))) (beside : List Row) : Type 0 where

@@ -3,6 +3,7 @@
 
 mod bar;
 mod build;
+mod ends;
 mod fault;
 mod feet;
 mod free;
@@ -12,10 +13,12 @@ mod lines;
 mod lot;
 mod marks;
 mod near;
+mod neighbours;
 mod numbers;
 mod rising;
 mod row;
 mod rungs;
+mod search;
 mod slabs;
 mod spans;
 mod strand;

@@ -10,13 +10,13 @@ ghost use Rattle.plan_slab.specs.Sides.{AreLeftOf, AreRightOf};
 ghost use Rattle.plan_grid.specs.Fraction.{Fraction};
 ghost use Rattle.plan_slab.specs.Decomposition.{IsPlaced, AreInOrder};
 ghost use Rattle.plan_slab.specs.Heights.{IsHeightOn, IsOver};
-ghost use Rattle.plan_slab.specs.LotKeys.{key};
 ghost use Rattle.plan_slab.specs.LotOrder.{index};
 ghost use Rattle.plan_slab.specs.Seen.{lot_seen};
-ghost use Rattle.plan_slab.specs.Subdivision.{slabs_of, regions_of, IsFirstFrom, IsNumberOf};
+ghost use Rattle.plan_slab.specs.Subdivision.{slabs_of, regions_of, IsNumberOf};
 
 use crate::lot::Lot;
 use crate::row::Row;
+use crate::search::first_from;
 use crate::strand::Strand;
 use plan_grid::Ratio;
 use std::marker::Model;
@@ -180,17 +180,10 @@ impl Slabs {
         requires { index (lot_seen lot) < 131072 }
         ensures { IsNumberOf self.now (lot_seen lot) result }
     {
-        let at = self.first_from(lot.key());
+        let at = first_from(&self.lots, lot.key());
         if at < self.lots.len() && self.lots[at].is(lot) {
             return Some(at as u32);
         }
         None
-    }
-
-    // The number of the first lot of that key or a greater one; the number of regions where there is none.
-    fn first_from(&self, key: u64) -> usize
-        ensures { IsFirstFrom self.now key result }
-    {
-        self.lots.partition_point(|lot: &Lot| lot.key() < key)
     }
 }

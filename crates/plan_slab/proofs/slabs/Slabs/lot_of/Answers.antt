@@ -3,7 +3,7 @@ use Rattle.std.proofs.Common.{◌≡◌, ◌<◌, length, get_or, sym, ap, ◌�
 use Rattle.std.proofs.lemmas.List.{get_or-map, length-map}
 use Rattle.plan_spec.specs.Regions.{IsLot}
 use Rattle.plan_slab.specs.Seen.{lot_seen}
-use Rattle.plan_slab.specs.Subdivision.{IsSubdivision, slabs_of, regions_of}
+use Rattle.plan_slab.specs.Subdivision.{IsSubdivision, slabs_of}
 use Rattle.plan_slab.proofs.slabs.Slabs.lot_of.Goals as goal
 
 pub returns-clause-lot : goal.returns-clause-lot
