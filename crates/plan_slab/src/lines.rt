@@ -1,6 +1,7 @@
 ghost use Rattle.std.specs.Prelude.{pos, ◌≤ℤ◌, ◌≤◌, All, IfOk, unsigned_abs};
 ghost use Rattle.plan_spec.specs.Segment.{HasPoints};
 ghost use Rattle.plan_grid.specs.Fraction.{IsRatio};
+ghost use Rattle.plan_convex.specs.Piece.{IsPieceInRange};
 ghost use Rattle.plan_slab.specs.EventLines.{IsXOf, IsLine, AreEventLines};
 
 use crate::rising::make_rising;
@@ -11,7 +12,8 @@ use std::alloc::{AllocError, Global};
 /// The event lines: the x of the ends of pieces, rising.
 pub fn lines_of(alloc: Global, pieces: &[Piece]) -> Result<Vec<Ratio>, AllocError>
     requires { All (λ p. HasPoints p.part) pieces.now }
-    ensures { IfOk result (λ v. AreEventLines pieces.now v.items) }
+    ensures lines { IfOk result (λ v. AreEventLines pieces.now v.items) }
+    ensures in_range { IfOk result (λ _. All IsPieceInRange pieces.now) }
 {
     let mut lines = Vec::new(alloc);
     for piece in pieces {
@@ -29,6 +31,7 @@ fn ends_of(piece: &Piece) -> (Ratio, Ratio)
     ensures last { IsXOf piece.now.part.b result.1 }
     ensures first_line { IsLine result.0 }
     ensures last_line { IsLine result.1 }
+    ensures in_range { IsPieceInRange piece.now }
 {
     (x_of(piece.a), x_of(piece.b))
 }

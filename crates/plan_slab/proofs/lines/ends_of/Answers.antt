@@ -3,6 +3,7 @@ use Rattle.std.proofs.Common.{◌<◌, ◌≤◌, ◌^◌, ℕ, ℤ, pos, ◌<�
 use Rattle.std.specs.Int.RustNames.{unsigned_abs}
 use Rattle.std.proofs.lemmas.Int.{ints}
 use Rattle.plan_spec.specs.Pieces.{Piece}
+use Rattle.plan_convex.specs.Piece.{IsPieceInRange}
 use Rattle.plan_slab.specs.EventLines.{IsXOf}
 use Rattle.plan_slab.proofs.lines.ends_of.Goals as goal
 
@@ -20,4 +21,5 @@ returns c =
       last = subst (λ p. IsXOf p c.x_of-2.result) b c.x_of-2.ensures.x;
       first_line = record { ratio = c.x_of.ensures.in_range; bounded = bounded c.piece.inside.a.w _ c.x_of.ensures.bounded c.x_of.ensures.weight i.from_bounded };
       last_line = record { ratio = c.x_of-2.ensures.in_range; bounded = bounded c.piece.inside.b.w _ c.x_of-2.ensures.bounded c.x_of-2.ensures.weight i.to_bounded };
+      in_range = subst IsPieceInRange c.piece.view_is i;
     }
