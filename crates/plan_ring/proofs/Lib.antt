@@ -16,3 +16,6 @@ pub mod ByPosition
 pub mod Reach
 pub mod OneKind
 pub mod Alike
+pub mod Added
+pub mod Outlining
+pub mod MarkPoints

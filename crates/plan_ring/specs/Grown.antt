@@ -1,11 +1,11 @@
 -- Chains by the positions of their ends, and what has been added to one.
-use Rattle.std.specs.Prelude.{ℕ, List, ◌++◌, map}
+use Rattle.std.specs.Prelude.{ℕ, List, [], ◌∷◌, ◌++◌, map, if◌then◌else◌}
 use Rattle.std.specs.List.{AllZip}
 use Rattle.plan_spec.specs.Vector.{Same}
 use Rattle.plan_spec.specs.Segment as spec
 use Rattle.plan_spec.specs.Neighbours.{AreNeighbours}
 use Rattle.plan_spec.specs.Regions.{Lot}
-use Rattle.plan_spec.specs.Rings.{ring}
+use Rattle.plan_spec.specs.Rings.{ring, has_wall, part}
 use Rattle.plan_spec.specs.Slabs.{Slabs}
 use Rattle.plan_spec.specs.Walks.{IsComponent}
 use Rattle.plan_cross.specs.declared.segment.Segment.{Segment}
@@ -18,6 +18,10 @@ AreAlike = AllZip (λ s t. Same s.a t.a × Same s.b t.b)
 -- the new list is the old one with these segments behind it
 abbrev pub HasAdded : List Segment → List Segment → List spec.Segment → Type 0
 HasAdded old new ss = (before : List spec.Segment) → AreAlike (map segment_seen old) before → AreAlike (map segment_seen new) (before ++ ss)
+
+-- the part of line k above mark j, unless it is a free wall
+abbrev pub closed_part : Slabs → List Lot → ℕ → ℕ → List spec.Segment
+closed_part σ found k j = if has_wall found k j then [] else part σ k j ∷ []
 
 -- end by end the ring of the component of region m
 pub record IsRingOf (σ : Slabs) (found : List Lot) (m : ℕ) (chain : List spec.Segment) : Type 0 where

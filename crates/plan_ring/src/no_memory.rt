@@ -9,3 +9,9 @@ impl From<AllocError> for NoMemory {
         NoMemory
     }
 }
+
+impl From<plan_map::NoMemory> for NoMemory {
+    fn from(_: plan_map::NoMemory) -> NoMemory {
+        NoMemory
+    }
+}

@@ -1,4 +1,4 @@
-ghost use Rattle.std.specs.Prelude.{◌≡◌, ◌+◌, ◌<◌, [], ◌≤◌, suc, length, get_or, All, AllPairs};
+ghost use Rattle.std.specs.Prelude.{◌≡◌, ◌+◌, ◌-◌, ◌<◌, [], ◌≤◌, suc, length, get_or, All, AllPairs};
 ghost use Rattle.plan_spec.specs.Regions as spec;
 ghost use Rattle.plan_spec.specs.Regions.{mediant, IsLot};
 ghost use Rattle.plan_spec.specs.Slabs.{size, line_at};
@@ -171,6 +171,7 @@ impl Slabs {
         requires { region < length (regions_of self.now) }
         ensures value { lot_seen result ≡ spec.region_at (regions_of self.now) region }
         ensures lot { IsLot (slabs_of self.now) (lot_seen result) }
+        ensures slab_count { length self.now.spans ≡ length self.now.lines - 1 }
     {
         self.lots[region as usize]
     }

@@ -14,3 +14,8 @@ returns-clause-lot c =
     let e : lot ≡ get_or s.lots c.args.region lot = c.index.ensures ∙ ap (λ v. get_or v.lots c.args.region lot) c.self.view_is in
     let less : c.args.region < length s.lots = omega (arith, c.requires, length-map s.lots lot_seen) in
     subst (IsLot (slabs_of s)) (get_or-map lot_seen s.lots c.args.region lot (lot_seen lot) less ∙ ap lot_seen (sym e)) (h.lots c.args.region (lot_seen lot) c.requires)
+
+pub returns-clause-slab_count : goal.returns-clause-slab_count
+returns-clause-slab_count c =
+    let h : IsSubdivision c.args.self.now = subst IsSubdivision c.self.view_is c.self.invariant.subdivision in
+    h.rows.slab_count

@@ -1,0 +1,2 @@
+-- ?
+use Rattle.plan_ring.proofs.outline.side.Goals as goal
