@@ -26,3 +26,4 @@ pub mod AnswerOne
 pub mod AnswerTouched
 pub mod AnswerEqual
 pub mod SceneTriangles
+pub mod AnswerGiven
