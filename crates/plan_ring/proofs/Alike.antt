@@ -23,6 +23,7 @@ pub mod RegionsOne
 pub mod AnswerPaths
 pub mod AnswerWalks
 pub mod AnswerOne
+pub mod AnswerByEach
 pub mod AnswerTouched
 pub mod AnswerEqual
 pub mod SceneTriangles

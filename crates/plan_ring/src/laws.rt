@@ -1,6 +1,6 @@
 //! The laws of rings, of maps, and of the answers that are given. Each function does nothing: its contract is the law.
 
-ghost use Rattle.plan_ring.specs.Laws.{RingIsAccepted, CanonicalChainIsRight, OneKindOfAnswer, OneSizeOfScene, MappedOrTooLarge, OneGiven, OneGivenInLowestTerms, MapsExist, ScenesHaveTriangles};
+ghost use Rattle.plan_ring.specs.Laws.{RingIsAccepted, CanonicalChainIsRight, OneKindOfAnswer, OneSizeOfScene, MappedOrTooLarge, OneGiven, GivenByEachMap, OneGivenInLowestTerms, MapsExist, ScenesHaveTriangles};
 
 /// The ring of the start's component is accepted wherever the goal is in another component.
 pub fn ring_is_accepted()
@@ -32,6 +32,11 @@ pub fn mapped_or_too_large()
 /// segments of the chain.
 pub fn one_given()
     ensures { OneGiven }
+{}
+
+/// What is given by one map of a scene is given by each of them.
+pub fn given_by_each_map()
+    ensures { GivenByEachMap }
 {}
 
 /// And where all its points are in lowest terms, the answer itself is one.

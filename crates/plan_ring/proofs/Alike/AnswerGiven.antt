@@ -13,7 +13,7 @@ use Rattle.plan_slab.proofs.Sorted.Exist.{slabs_exist, regions_exist}
 use Rattle.plan_slab.proofs.Regions.ExactlyOne.{KnownSlabs, spot_inside}
 use Rattle.plan_slab.proofs.Regions.Numbered.{is_lot}
 use Rattle.plan_ring.specs.Alike.{HasTriangles}
-use Rattle.plan_ring.specs.Laws.{OneSizeOfScene, MappedOrTooLarge, AlikeAnswer, OneGiven, OneGivenInLowestTerms, MapsExist}
+use Rattle.plan_ring.specs.Laws.{OneSizeOfScene, MappedOrTooLarge, AlikeAnswer, OneGiven, GivenByEachMap, OneGivenInLowestTerms, MapsExist}
 use Rattle.plan_ring.proofs.Alike.SlabsLowest.{lowest_slabs}
 use Rattle.plan_ring.proofs.Alike.Slabs.{AlikeSlabs}
 use Rattle.plan_ring.proofs.Alike.Boundary.{boundary_alike, clear_alike}
@@ -25,6 +25,7 @@ use Rattle.plan_ring.proofs.Alike.SlabsGround.{AlikeGround}
 use Rattle.plan_ring.proofs.Alike.SlabsOne.{alike_slabs, alike_size}
 use Rattle.plan_ring.proofs.Alike.RegionsOne.{one_regions}
 use Rattle.plan_ring.proofs.Alike.AnswerOne.{HasSpotsOf, one_path, one_chain, not_both, not_both_too}
+use Rattle.plan_ring.proofs.Alike.AnswerByEach.{answer_too}
 use Rattle.plan_ring.proofs.Alike.AnswerEqual.{equal_answers}
 use Rattle.plan_ring.proofs.Alike.AnswerTouched.{one_touched, not_clear}
 
@@ -115,6 +116,12 @@ pub one_given : OneGiven
 one_given scene s g a b triangles hs hg h k =
     let maps = alike_maps scene triangles h.is_map k.is_map in
     by_maps scene s g hs hg (subst (λ f. AlikeMaps h.slabs k.slabs h.regions f) (sym maps.regions) maps) a b h.canonical (subst (λ f. IsCanonical scene k.slabs f s g b) (sym maps.regions) k.canonical)
+
+pub given_by_each : GivenByEachMap
+given_by_each scene σ found triangles m s g answer hs hg h = by (alike_maps scene triangles h.is_map m)
+  where
+    by : AlikeMaps h.slabs σ h.regions found → IsCanonical scene σ found s g answer
+    by maps = answer_too maps.slabs found s g hs hg scene (subst (HasSpotsOf h.slabs) maps.regions maps.first_spots) maps.second_spots answer (subst (λ f. IsCanonical scene h.slabs f s g answer) maps.regions h.canonical)
 
 pub one_in_lowest_terms : OneGivenInLowestTerms
 one_in_lowest_terms scene s g a b triangles hs hg h k low low2 = equal_answers a b low low2 (one_given scene s g a b triangles hs hg h k)

@@ -25,10 +25,10 @@ abbrev pub HasSpotsOf : Slabs → List Lot → Type 0
 HasSpotsOf σ found = (n : ℕ) → n < length found → IsPoint (spot_of σ (region_at found n))
 
 -- three lists of points, and of segments
-points_trans : (ps qs rs : List Vector) → All IsPoint qs → AlikePoints ps qs → AlikePoints qs rs → AlikePoints ps rs
+pub points_trans : (ps qs rs : List Vector) → All IsPoint qs → AlikePoints ps qs → AlikePoints qs rs → AlikePoints ps rs
 points_trans ps qs rs = zip_trans Same IsPoint (λ x y z hy e f. Same-trans x y z hy e f) ps qs rs
 
-segments_trans : (ss ts us : List Segment) → All HasPoints ts → AllZip AlikeSegment ss ts → AllZip AlikeSegment ts us → AllZip AlikeSegment ss us
+pub segments_trans : (ss ts us : List Segment) → All HasPoints ts → AllZip AlikeSegment ss ts → AllZip AlikeSegment ts us → AllZip AlikeSegment ss us
 segments_trans ss ts us = zip_trans AlikeSegment HasPoints (λ x y z hy e f. segment_trans x y z hy e f) ss ts us
 
 module _ {σ τ : Slabs} (a : AlikeSlabs σ τ) (found : List Lot) (s g : Vector) (hs : IsPoint s) (hg : IsPoint g) where
