@@ -1,4 +1,6 @@
 mod Answering
 mod Editing
 mod Prefixes
+mod Replying
 mod Worked
+mod Working

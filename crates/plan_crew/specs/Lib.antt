@@ -3,3 +3,4 @@ pub mod Edits
 pub mod Lane
 pub mod Numbers
 pub mod Round
+pub mod Works

@@ -23,6 +23,8 @@ pub mod RegionsOne
 pub mod AnswerPaths
 pub mod AnswerWalks
 pub mod AnswerOne
+pub mod AnswerByEach
 pub mod AnswerTouched
 pub mod AnswerEqual
 pub mod SceneTriangles
+pub mod AnswerGiven

@@ -3,7 +3,7 @@ use Rattle.std.specs.Prelude.{◌≡◌, ◌⊎◌, ℕ, List, All}
 use Rattle.std.specs.List.{AllZip}
 use Rattle.plan_spec.specs.Vector.{Vector, IsPoint}
 use Rattle.plan_spec.specs.Segment.{Segment, HasPoints}
-use Rattle.plan_spec.specs.Answers.{Answer, start_touches, goal_touches, by_path, by_chain, IsRightChain, IsCanonicalChain}
+use Rattle.plan_spec.specs.Answers.{Answer, start_touches, goal_touches, by_path, by_chain, IsRightChain, IsCanonicalChain, IsCanonical}
 use Rattle.plan_spec.specs.Chain.{Blocks}
 use Rattle.plan_spec.specs.Frame.{Frame}
 use Rattle.plan_spec.specs.Maps.{IsMapOf, IsMapped, IsTooLarge, IsGiven}
@@ -70,6 +70,10 @@ AlikeAnswer _ _ = ⊥
 -- so the answer that is given is one by position, whatever the map
 abbrev pub OneGiven : Type 0
 OneGiven = (scene : Scene) (s g : Vector) (a b : Answer) → HasTriangles scene → IsPoint s → IsPoint g → IsGiven scene s g a → IsGiven scene s g b → AlikeAnswer a b
+
+-- and what is given by one map is given by each
+abbrev pub GivenByEachMap : Type 0
+GivenByEachMap = (scene : Scene) (σ : Slabs) (found : List Lot) → HasTriangles scene → IsMapOf scene σ found → (s g : Vector) (answer : Answer) → IsPoint s → IsPoint g → IsGiven scene s g answer → IsCanonical scene σ found s g answer
 
 -- a point whose three numbers have no common divisor above 1
 abbrev pub IsLowestPoint : Vector → Type 0

@@ -3,8 +3,9 @@ use Rattle.std.specs.Prelude.{◌≡◌, ℕ, List, codes, Some, Ok, All}
 use Rattle.serde_json.specs.Data.{Data}
 use Rattle.serde_json.specs.Find.{get}
 use Rattle.plan_grid.specs.Bounds.{IsInRange}
+use Rattle.plan_wire.specs.Reading.{Read, made, member}
 use Rattle.plan_wire.specs.Documents as documents
-use Rattle.plan_wire.specs.Documents.{Certificate, path, chain, proof, json_of, certificate_of, document_of}
+use Rattle.plan_wire.specs.Documents.{Certificate, path, chain, proof, json_of, query_of, certificate_of, task_of, document_of}
 use Rattle.plan_wire.specs.Bounds.{EndsFit}
 use Rattle.plan_wire.specs.CertificateText.{certificate_text}
 use Rattle.plan_wire.specs.declared.documents.Want.TheVariants.{Check}
@@ -24,9 +25,13 @@ pub record IsReadAs (text : List ℕ) (c : Certificate) : Type 0 where
 abbrev pub ReadBack : Type 0
 ReadBack = (c : Certificate) → HasPointsInRange c → IsReadAs (certificate_text c) c
 
--- a document of `check` whose member `certificate` has the value of the text is read with that certificate, or not at all
+-- what is asked is read as a query and this certificate, and is refused only where the query is; so is what the whole document asks
+pub record IsReadWith (c : Certificate) (whole : Data) (read : Read documents.Document) : Type 0 where
+  pub task : (place : List ℕ) → task_of Check place whole ≡ made (λ query. proof query c) (member (codes "query") query_of place whole)
+  pub document : (d : documents.Document) → read ≡ Ok d → (query : documents.Query) × (d.task ≡ proof query c)
+
+-- a document of `check` whose member `certificate` has the value of the text is read with that certificate
 abbrev pub ReadInDocument : Type 0
 ReadInDocument =
     (text : List ℕ) (c : Certificate) (r : IsReadAs text c)
-    → (bytes : List ℕ) (whole : Data) → json_of bytes ≡ Ok whole → get (codes "certificate") whole ≡ Some r.value
-    → (d : documents.Document) → document_of bytes Check ≡ Ok d → (query : documents.Query) × (d.task ≡ proof query c)
+    → (bytes : List ℕ) (whole : Data) → json_of bytes ≡ Ok whole → get (codes "certificate") whole ≡ Some r.value → IsReadWith c whole (document_of bytes Check)

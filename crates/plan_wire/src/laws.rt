@@ -7,7 +7,7 @@ pub fn read_back()
     ensures { ReadBack }
 {}
 
-/// A document of `check` that has that value as its `certificate` is read with that certificate.
+/// A document of `check` that has that value as its `certificate` is read with that certificate, and not refused for it.
 pub fn read_in_document()
     ensures { ReadInDocument }
 {}

@@ -13,8 +13,9 @@ use Rattle.plan_spec.specs.Walks.{IsFirstWalk, IsComponent, AreJoined}
 use Rattle.plan_plane.proofs.Segment.Same.{Same-swapped, Same-trans}
 use Rattle.plan_map.proofs.Graph.FirstWalk.{one_walk}
 use Rattle.plan_ring.specs.Alike.{AlikePoints, AlikeSegment}
+use Rattle.plan_ring.proofs.Alike.Boundary.{segment_swapped}
 use Rattle.plan_ring.proofs.Alike.Slabs.{AlikeSlabs, mark_ends}
-use Rattle.plan_ring.proofs.Alike.SlabsGround.{swapped_segment, segment_trans}
+use Rattle.plan_ring.proofs.Alike.SlabsGround.{segment_trans}
 use Rattle.plan_ring.proofs.Alike.SlabsLists.{zip_trans, zip_swapped}
 use Rattle.plan_ring.proofs.Alike.AnswerPaths.{path_points, path_alike, ring_alike, ring_points}
 use Rattle.plan_ring.proofs.Alike.AnswerWalks.{one_component, walk_within, one_region, same_next}
@@ -24,10 +25,10 @@ abbrev pub HasSpotsOf : Slabs → List Lot → Type 0
 HasSpotsOf σ found = (n : ℕ) → n < length found → IsPoint (spot_of σ (region_at found n))
 
 -- three lists of points, and of segments
-points_trans : (ps qs rs : List Vector) → All IsPoint qs → AlikePoints ps qs → AlikePoints qs rs → AlikePoints ps rs
+pub points_trans : (ps qs rs : List Vector) → All IsPoint qs → AlikePoints ps qs → AlikePoints qs rs → AlikePoints ps rs
 points_trans ps qs rs = zip_trans Same IsPoint (λ x y z hy e f. Same-trans x y z hy e f) ps qs rs
 
-segments_trans : (ss ts us : List Segment) → All HasPoints ts → AllZip AlikeSegment ss ts → AllZip AlikeSegment ts us → AllZip AlikeSegment ss us
+pub segments_trans : (ss ts us : List Segment) → All HasPoints ts → AllZip AlikeSegment ss ts → AllZip AlikeSegment ts us → AllZip AlikeSegment ss us
 segments_trans ss ts us = zip_trans AlikeSegment HasPoints (λ x y z hy e f. segment_trans x y z hy e f) ss ts us
 
 module _ {σ τ : Slabs} (a : AlikeSlabs σ τ) (found : List Lot) (s g : Vector) (hs : IsPoint s) (hg : IsPoint g) where
@@ -58,7 +59,7 @@ module _ {σ τ : Slabs} (a : AlikeSlabs σ τ) (found : List Lot) (s g : Vector
       let by_second = ring τ found c.component in
       segments_trans p by_first q (ring_points σ found (λ k j. (mark_ends a k j).0) c.component) c.is_ring
       (segments_trans by_first by_second q (ring_points τ found (λ k j. (mark_ends a k j).1) c.component) (ring_alike a found c.component)
-      (subst (λ ns. AllZip AlikeSegment (ring τ found ns) q) (sym same) (zip_swapped AlikeSegment swapped_segment q (ring τ found d.component) d.is_ring)))
+      (subst (λ ns. AllZip AlikeSegment (ring τ found ns) q) (sym same) (zip_swapped AlikeSegment segment_swapped q (ring τ found d.component) d.is_ring)))
 
   -- a path and a chain are not both given
   pub not_both : (p : List Vector) (q : List Segment) → IsCanonicalPath σ found s g p → ¬ (IsCanonicalChain τ found s g q)

@@ -1,9 +1,9 @@
 -- What a placement touches has one number, and where it has one it is not clear.
 use Rattle.std.proofs.Common.{◌≡◌, inl, inr, ℕ, ◌≤◌, sym, ◌∙◌, arith}
+use Rattle.std.proofs.lemmas.List.Elements.{All-contains}
 use Rattle.plan_spec.specs.Vector.{Vector}
 use Rattle.plan_spec.specs.Placement.{Scene, Meets, IsClear, IsLeastMet, IsTouched}
 use Rattle.plan_plane.proofs.Lists.{any_weaker}
-use Rattle.std.proofs.lemmas.List.Elements.{All-contains}
 
 at_most : (scene : Scene) (p : Vector) (m n : ℕ) → IsLeastMet scene p m → IsLeastMet scene p n → m ≤ n
 at_most scene p m n h k =

@@ -6,20 +6,20 @@ use Rattle.plan_exact.proofs.Laws.{linear}
 use Rattle.plan_exact.proofs.Signs.{le_or_lt}
 use Rattle.plan_exact.proofs.Tests.{lt_true, lt_false}
 use Rattle.plan_spec.specs.Vector.{Vector, IsPoint, SameX, LeX, LtX}
-use Rattle.plan_spec.specs.Segment.{Segment, segment, HasPoints, On}
+use Rattle.plan_spec.specs.Segment.{Segment, segment, HasPoints}
 use Rattle.plan_spec.specs.Frame.{Frame}
 use Rattle.plan_spec.specs.Boundary.{IsClearOf, boundary}
 use Rattle.plan_spec.specs.Pieces.{Piece, piece}
 use Rattle.plan_spec.specs.Slabs.{nothing, piece_at, edge_of, Reaches, LiesOn, rightward, IsMark}
 use Rattle.plan_plane.proofs.Rising.ByCoordinate.{order_x}
-use Rattle.plan_plane.proofs.Segment.Between.{flip}
 use Rattle.plan_plane.proofs.Segment.ByX.{leX_trans}
-use Rattle.plan_plane.proofs.Segment.Same.{Same-swapped, Same-trans}
+use Rattle.plan_plane.proofs.Segment.Same.{Same-trans}
 use Rattle.plan_plane.proofs.Segment.SameSign.{zero_same}
 use Rattle.plan_slab.proofs.Pieces.{HasPieces}
 use Rattle.plan_ring.specs.Alike.{AlikeSegment, AlikePiece, AlikePieces}
+use Rattle.plan_ring.proofs.Alike.Boundary.{segment_swapped}
+use Rattle.plan_ring.proofs.Alike.Pieces.{on_alike}
 use Rattle.plan_ring.proofs.Alike.SlabsLists.{zip_at, zip_long}
-use Rattle.plan_ring.proofs.Alike.RegionsTurns.{AlikeTurns, turn_zero}
 
 pub record AlikeGround (vs ws : List (List Vector)) (room : Frame) (ps qs : List Piece) : Type 0 where
   pub first : HasPieces vs room ps
@@ -47,9 +47,6 @@ less_test a b u v ha hb hu hv e f = by (le_or_lt (b.x *ℤ a.w) (a.x *ℤ b.w)) 
     by (inl p) (inr q) = let g : LtX a b = less_alike u v a b hu hv ha hb (sym e) (sym f) q in absurd (omega (arith, linear))
 
 -- ---- segments
-pub swapped_segment : (s t : Segment) → AlikeSegment s t → AlikeSegment t s
-swapped_segment s t e = (Same-swapped s.a t.a e.0, Same-swapped s.b t.b e.1)
-
 pub segment_trans : (s t u : Segment) → HasPoints t → AlikeSegment s t → AlikeSegment t u → AlikeSegment s u
 segment_trans s t u ht e f = (Same-trans s.a t.a u.a ht.0 e.0 f.0, Same-trans s.b t.b u.b ht.1 e.1 f.1)
 
@@ -68,20 +65,6 @@ rightward_alike e f he hf h =
     by true = (h.1, h.0)
     by false = h
 
-on_alike : (s t : Segment) (z : Vector) → HasPoints s → HasPoints t → IsPoint z → AlikeSegment s t → On s z → On t z
-on_alike s t z hs ht hz e on = record {
-  in_line = turn_zero turns on.in_line;
-  within_x = within s.a s.b t.a t.b z hs.0 hs.1 ht.0 ht.1 hz e.0.0 e.1.0 on.within_x;
-  within_y = within (flip s.a) (flip s.b) (flip t.a) (flip t.b) (flip z) hs.0 hs.1 ht.0 ht.1 hz e.0.1 e.1.1 on.within_y;
-}
-  where
-    turns : AlikeTurns s.a s.b z t.a t.b z
-    turns = record { first = (hs.0, hs.1, hz); second = (ht.0, ht.1, hz); same = (e.0, e.1, (refl, refl)) }
-
-    within : (a b c d z : Vector) → IsPoint a → IsPoint b → IsPoint c → IsPoint d → IsPoint z → SameX a c → SameX b d → (LeX a z × LeX z b) ⊎ (LeX b z × LeX z a) → (LeX c z × LeX z d) ⊎ (LeX d z × LeX z c)
-    within a b c d z ha hb hc hd hz e f (inl h) = inl (before_alike a c z ha hc hz e h.0, after_alike b d z hb hd hz f h.1)
-    within a b c d z ha hb hc hd hz e f (inr h) = inr (before_alike b d z hb hd hz f h.0, after_alike a c z ha hc hz e h.1)
-
 -- ---- one piece
 module _ (p q : Piece) (hp : HasPoints p.part) (hq : HasPoints q.part) (e : AlikePiece p q) where
   pub reaches_alike : (l r : Vector) → IsPoint l → IsPoint r → Reaches l r p → Reaches l r q
@@ -93,14 +76,14 @@ module _ (p q : Piece) (hp : HasPoints p.part) (hq : HasPoints q.part) (e : Alik
   pub mark_of_alike : (z : Vector) → IsPoint z → IsMark z p → IsMark z q
   mark_of_alike z hz (inl h) = inl (Same-trans z p.part.a q.part.a hp.0 h e.1.0)
   mark_of_alike z hz (inr (inl h)) = inr (inl (Same-trans z p.part.b q.part.b hp.1 h e.1.1))
-  mark_of_alike z hz (inr (inr h)) = inr (inr (less_alike p.part.a p.part.b q.part.a q.part.b hp.0 hp.1 hq.0 hq.1 e.1.0.0 e.1.1.0 h.0, on_alike p.part q.part z hp hq hz e.1 h.1))
+  mark_of_alike z hz (inr (inr h)) = inr (inr (less_alike p.part.a p.part.b q.part.a q.part.b hp.0 hp.1 hq.0 hq.1 e.1.0.0 e.1.1.0 h.0, on_alike p.part q.part z hp hq e.1 hz h.1))
 
   pub edge_alike : (vs ws : List (List Vector)) (room : Frame) → AllZip AlikeSegment (boundary vs room) (boundary ws room) → AlikeSegment (edge_of vs room p) (edge_of ws room q)
   edge_alike vs ws room h = subst (λ n. AlikeSegment (edge_of vs room p) (edge_of ws room (piece n q.part))) e.0 (zip_at AlikeSegment (boundary vs room) (boundary ws room) nothing nothing ((refl, refl), (refl, refl)) h p.edge)
 
 -- ---- pieces by number
 pub swapped_piece : (p q : Piece) → AlikePiece p q → AlikePiece q p
-swapped_piece p q e = (sym e.0, swapped_segment p.part q.part e.1)
+swapped_piece p q e = (sym e.0, segment_swapped p.part q.part e.1)
 
 module _ {vs ws : List (List Vector)} {room : Frame} {ps qs : List Piece} (g : AlikeGround vs ws room ps qs) where
   pub piece_alike : (n : ℕ) → AlikePiece (piece_at ps n) (piece_at qs n)

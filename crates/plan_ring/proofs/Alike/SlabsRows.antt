@@ -23,14 +23,15 @@ use Rattle.plan_slab.proofs.Pieces.{HasPieces}
 use Rattle.plan_slab.proofs.Regions.SpanLines.{has_piece}
 use Rattle.plan_slab.proofs.Sorted.Marks.{on_line}
 use Rattle.plan_ring.specs.Alike.{AlikeSegment, AlikePiece}
-use Rattle.plan_ring.proofs.Alike.SlabsGround.{AlikeGround, rightward_points, rightward_alike, reaches_alike, lies_alike, mark_of_alike, edge_alike, swapped_piece, swapped_segment, piece_alike, as_many}
+use Rattle.plan_ring.proofs.Alike.Boundary.{segment_swapped}
+use Rattle.plan_ring.proofs.Alike.SlabsGround.{AlikeGround, rightward_points, rightward_alike, reaches_alike, lies_alike, mark_of_alike, edge_alike, swapped_piece, piece_alike, as_many}
 use Rattle.plan_ring.proofs.Alike.SlabsLists.{zip_at, zip_long, zip_from, zip_swapped}
 
 pub swapped : {vs ws : List (List Vector)} {room : Frame} {ps qs : List Piece} → AlikeGround vs ws room ps qs → AlikeGround ws vs room qs ps
 swapped {vs} {ws} {room} {ps} {qs} g = record {
   first = g.second;
   second = g.first;
-  edges = zip_swapped AlikeSegment swapped_segment (boundary vs room) (boundary ws room) g.edges;
+  edges = zip_swapped AlikeSegment segment_swapped (boundary vs room) (boundary ws room) g.edges;
   pieces = zip_swapped AlikePiece swapped_piece ps qs g.pieces;
   clear = λ z hz. ((g.clear z hz).1, (g.clear z hz).0);
 }

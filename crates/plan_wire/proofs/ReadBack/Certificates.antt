@@ -1,6 +1,6 @@
 -- The text of a certificate is JSON, and its value is read as the certificate.
-use Rattle.std.proofs.Common.{◌≡◌, ℕ, ℤ, List, [], ◌∷◌, ◌++◌, codes, All, IsUtf8, refl, sym, ap, ◌∙◌, arith}
-use Rattle.std.proofs.lemmas.List.Elements.{All-nil, All-cons}
+use Rattle.std.proofs.Common.{◌≡◌, ℕ, ℤ, List, [], ◌∷◌, ◌++◌, codes, All, IsUtf8, refl, sym, ap, subst, ◌∙◌, arith}
+use Rattle.std.proofs.lemmas.List.Elements.{All-nil, All-cons, All-weaker}
 use Rattle.std.specs.Fmt.{signed_decimal}
 use Rattle.json.specs.Print.{escape_byte}
 use Rattle.json.proofs.Printed.Utf8.{IsUtf8-are_ascii}
@@ -14,16 +14,12 @@ use Rattle.plan_wire.specs.Bounds.{EndsFit}
 use Rattle.plan_wire.specs.Reading.{json, some_or, at_member}
 use Rattle.plan_wire.specs.Documents.{Certificate, path, chain, point_of, segment_of, certificate_of}
 use Rattle.plan_wire.specs.CertificateText.{listed, numbers_text, point_text, segment_text, certificate_text}
-use Rattle.plan_wire.specs.ReadBack.{HasPointsInRange, ReadBack}
+use Rattle.plan_wire.specs.ReadBack.{HasPointsInRange, IsReadAs, ReadBack}
 use Rattle.plan_wire.proofs.Bytes.{text}
 use Rattle.plan_wire.proofs.Points.{point_at_itself}
 use Rattle.plan_wire.proofs.ReadBack.Values.{Fits, number_data, array_data, numbers_data, object_data, IsExact, number_exact, array_exact, object_exact, exact_read}
 use Rattle.plan_wire.proofs.ReadBack.Texts.{number_compact, array_compact, signed_decimal_utf8, listed_utf8, around}
 use Rattle.plan_wire.proofs.ReadBack.Readers.{IsRead, any_read, three_read, six_read}
-
--- what holds of each of them holds of all
-every : {A : Type 0} (P Q : A → Type 0) → ((x : A) → P x → Q x) → (xs : List A) → All P xs → All Q xs
-every P Q f xs h k d within = f _ (h k d within)
 
 -- ---- numbers
 
@@ -31,10 +27,10 @@ numbers_compact : (zs : List ℤ) → compact_text (numbers_data zs) ≡ numbers
 numbers_compact zs = array_compact number_data signed_decimal number_compact zs
 
 numbers_exact : (zs : List ℤ) → All Fits zs → IsExact 1 (numbers_data zs)
-numbers_exact zs h = array_exact 0 number_data zs (every Fits (λ z. IsExact 0 (number_data z)) number_exact zs h)
+numbers_exact zs h = array_exact 0 number_data zs (All-weaker Fits (λ z. IsExact 0 (number_data z)) number_exact zs h)
 
 numbers_utf8 : (zs : List ℤ) → All Fits zs → IsUtf8 (numbers_text zs)
-numbers_utf8 zs h = listed_utf8 signed_decimal zs (every Fits (λ z. IsUtf8 (signed_decimal z)) signed_decimal_utf8 zs h)
+numbers_utf8 zs h = listed_utf8 signed_decimal zs (All-weaker Fits (λ z. IsUtf8 (signed_decimal z)) signed_decimal_utf8 zs h)
 
 -- ---- points
 
@@ -110,23 +106,23 @@ certificate_is_text (path points) h = record {
   compact = ap (λ s. codes "{\"path\":" ++ s ++ codes "}") (array_compact point_data point_text point_compact points);
   utf8 =
       around (codes "{\"path\":") (listed point_text points) (codes "}") (IsUtf8-are_ascii (codes "{\"path\":") refl)
-      (listed_utf8 point_text points (every IsInRange (λ p. IsUtf8 (point_text p)) (λ p k. numbers_utf8 (point_numbers p) (point_fits p k)) points h)) (IsUtf8-are_ascii (codes "}") refl);
-  exact = object_exact 2 (codes "path") (array_data point_data points) (array_exact 1 point_data points (every IsInRange (λ p. IsExact 1 (point_data p)) (λ p k. numbers_exact (point_numbers p) (point_fits p k)) points h));
+      (listed_utf8 point_text points (All-weaker IsInRange (λ p. IsUtf8 (point_text p)) (λ p k. numbers_utf8 (point_numbers p) (point_fits p k)) points h)) (IsUtf8-are_ascii (codes "}") refl);
+  exact = object_exact 2 (codes "path") (array_data point_data points) (array_exact 1 point_data points (All-weaker IsInRange (λ p. IsExact 1 (point_data p)) (λ p k. numbers_exact (point_numbers p) (point_fits p k)) points h));
 }
 certificate_is_text (chain segments) h = record {
   compact = ap (λ s. codes "{\"chain\":" ++ s ++ codes "}") (array_compact segment_data segment_text segment_compact segments);
   utf8 =
       around (codes "{\"chain\":") (listed segment_text segments) (codes "}") (IsUtf8-are_ascii (codes "{\"chain\":") refl)
-      (listed_utf8 segment_text segments (every EndsFit (λ s. IsUtf8 (segment_text s)) (λ s k. numbers_utf8 (segment_numbers s) (segment_fits s k)) segments h)) (IsUtf8-are_ascii (codes "}") refl);
-  exact = object_exact 2 (codes "chain") (array_data segment_data segments) (array_exact 1 segment_data segments (every EndsFit (λ s. IsExact 1 (segment_data s)) (λ s k. numbers_exact (segment_numbers s) (segment_fits s k)) segments h));
+      (listed_utf8 segment_text segments (All-weaker EndsFit (λ s. IsUtf8 (segment_text s)) (λ s k. numbers_utf8 (segment_numbers s) (segment_fits s k)) segments h)) (IsUtf8-are_ascii (codes "}") refl);
+  exact = object_exact 2 (codes "chain") (array_data segment_data segments) (array_exact 1 segment_data segments (All-weaker EndsFit (λ s. IsExact 1 (segment_data s)) (λ s k. numbers_exact (segment_numbers s) (segment_fits s k)) segments h));
 }
 
 certificate_read : (c : Certificate) → HasPointsInRange c → IsRead certificate_of certificate_data c
 unfolding certificate_of
 certificate_read (path points) h place =
-    rw (any_read point_of point_data (at_member place (codes "path")) points (every IsInRange (IsRead point_of point_data) point_read points h)) refl
+    rw (any_read point_of point_data (at_member place (codes "path")) points (All-weaker IsInRange (IsRead point_of point_data) point_read points h)) refl
 certificate_read (chain segments) h place =
-    rw (any_read segment_of segment_data (at_member place (codes "chain")) segments (every EndsFit (IsRead segment_of segment_data) segment_read segments h)) refl
+    rw (any_read segment_of segment_data (at_member place (codes "chain")) segments (All-weaker EndsFit (IsRead segment_of segment_data) segment_read segments h)) refl
 
 deeper : (d : Data) → IsExact 3 d → IsExact max_depth d
 deeper d e = record { same = e.same; numbers = e.numbers; shallow = omega (arith, e.shallow) }
@@ -140,3 +136,7 @@ certificate_read_back c h =
       json = text (certificate_text c) (certificate_text c) (refl, t.utf8) ∙ ap (some_or json) (ap read (sym t.compact) ∙ exact_read d (deeper d t.exact));
       read = certificate_read c h;
     }
+
+-- also where it is put behind nothing
+pub whole_text : (before text : List ℕ) (c : Certificate) → before ≡ [] → text ≡ before ++ certificate_text c → HasPointsInRange c → IsReadAs text c
+whole_text before text c none is h = subst (λ t. IsReadAs t c) (sym (is ∙ ap (λ l. l ++ certificate_text c) none)) (certificate_read_back c h)

@@ -1,21 +1,22 @@
 -- A document of `check` is read with the certificate whose text stands in it.
-use Rattle.std.proofs.Common.{◌≡◌, ℕ, Bool, true, false, List, codes, length, nat_le, if◌then◌else◌, pos, Some, Ok, Err, sym, ap, ◌∙◌}
+use Rattle.std.proofs.Common.{◌≡◌, ℕ, Bool, true, false, List, codes, length, nat_le, if◌then◌else◌, pos, Some, Ok, Err, refl, sym, ap, ◌∙◌}
 use Rattle.serde_json.specs.Data.{Data}
 use Rattle.serde_json.specs.Find.{get}
-use Rattle.plan_wire.specs.Reading.{Read, too_long, bind, whole, at_member, member, object}
-use Rattle.plan_wire.specs.Documents.{Certificate, Document, Query, Task, proof, query_of, certificate_of, frame_of, robot_of, obstacles_of, task_of, value_of, json_of, document_of, most_bytes}
+use Rattle.plan_wire.specs.Reading.{Read, too_long, bind, made, whole, at_member, member, object}
+use Rattle.plan_wire.specs.Documents.{Certificate, Document, Query, Task, proof, query_of, frame_of, robot_of, obstacles_of, task_of, value_of, json_of, document_of, most_bytes}
 use Rattle.plan_wire.specs.ReadBack.{IsReadAs, ReadInDocument}
 use Rattle.plan_wire.specs.declared.documents.Want.TheVariants.{Check}
 use Rattle.plan_wire.proofs.Kept.Reads.{bind_ok, made_ok, same_ok}
 use Rattle.plan_wire.proofs.Kept.Whole.{object_is}
 
 module _ (text : List ℕ) (c : Certificate) (r : IsReadAs text c) where
-  task_proves : (place : List ℕ) (v : Data) (t : Task) → get (codes "certificate") v ≡ Some r.value → task_of Check place v ≡ Ok t → (query : Query) × (t ≡ proof query c)
+  task_read : (place : List ℕ) (v : Data) → get (codes "certificate") v ≡ Some r.value → task_of Check place v ≡ made (λ query. proof query c) (member (codes "query") query_of place v)
   unfolding task_of
+  task_read place v is = rw (is, r.read (at_member place (codes "certificate"))) refl
+
+  task_proves : (place : List ℕ) (v : Data) (t : Task) → get (codes "certificate") v ≡ Some r.value → task_of Check place v ≡ Ok t → (query : Query) × (t ≡ proof query c)
   task_proves place v t is h =
-      let read : member (codes "certificate") certificate_of place v ≡ Ok c = rw is (r.read (at_member place (codes "certificate"))) in
-      bind_ok (member (codes "query") query_of place v) _ t h (λ query _ rest.
-      made_ok (proof query) (member (codes "certificate") certificate_of place v) t rest (λ b b_read same. (query, sym same ∙ ap (proof query) (same_ok b c (sym b_read ∙ read)))))
+      made_ok (λ query. proof query c) (member (codes "query") query_of place v) t (sym (task_read place v is) ∙ h) (λ query _ same. (query, sym same))
 
   value_proves : (place : List ℕ) (v : Data) (d : Document) → get (codes "certificate") v ≡ Some r.value → value_of Check place v ≡ Ok d → (query : Query) × (d.task ≡ proof query c)
   unfolding value_of
@@ -38,4 +39,4 @@ module _ (text : List ℕ) (c : Certificate) (r : IsReadAs text c) where
       by_test false e = absurd cc
 
 pub read_in_document : ReadInDocument
-read_in_document text c r bytes v json is d h = document_proves text c r bytes v d json is h
+read_in_document text c r bytes v json is = record { task = λ place. task_read text c r place v is; document = λ d h. document_proves text c r bytes v d json is h }
