@@ -9,6 +9,7 @@ mod map;
 mod neighbours;
 mod no_memory;
 mod search;
+mod spot;
 mod walk;
 
 pub use map::{Map, Region, Walk};

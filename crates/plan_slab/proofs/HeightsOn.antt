@@ -38,9 +38,10 @@ use Rattle.plan_slab.specs.FreeLots.{AreRows}
 use Rattle.plan_slab.specs.Heights.{IsHeight, IsHeightOn}
 use Rattle.plan_slab.specs.Laws.{AreSlabsOf}
 use Rattle.plan_slab.specs.Seen.{line_seen, marks_seen}
-use Rattle.plan_slab.specs.SlabsSeen.{rows_seen, slabs_seen}
+use Rattle.plan_slab.specs.SlabsSeen.{slabs_seen}
 use Rattle.plan_slab.proofs.Pieces.{IsPiece, has_pieces}
 use Rattle.plan_slab.proofs.SlabsSeen.{rows_at}
+use Rattle.plan_slab.proofs.SweptRows.{rows_count}
 
 -- ---- the boundary's edges are between spots
 record IsShort (e : Segment) : Type 0 where
@@ -184,15 +185,9 @@ heights_on sums room pieces lines spans marks are rows ranges within low high k 
     heights : All IsHeight (get_or marks k [])
     heights = rows.heights k [] here
 
-    rows_long : (ls : List Fraction) (ns : List (List Fraction)) → length ns ≡ length ls → length (rows_seen ls ns) ≡ length ns
-    rows_long [] [] e = refl
-    rows_long [] (n ∷ ns) e = absurd (omega (arith, e))
-    rows_long (x ∷ ls) [] e = absurd (omega (arith, e))
-    rows_long (x ∷ ls) (n ∷ ns) e = ap suc (rows_long ls ns (omega (arith, e)))
-
     marked : AreMarks pieces (line_seen (get_or lines k d)) (marks_seen (get_or lines k d) (get_or marks k []))
     marked =
-        let h = are.slabs.marks k (omega (arith, here, rows_long lines marks rows.line_count)) in
+        let h = are.slabs.marks k (omega (arith, here, rows_count lines marks (omega (arith, rows.line_count)))) in
         subst (λ x. AreMarks pieces x (marks_seen (get_or lines k d) (get_or marks k []))) (get_or-map line_seen lines k d nowhere there)
         (subst (AreMarks pieces (line_at (slabs_seen lines spans marks) k)) (rows_at lines marks k d there here) h)
 

@@ -20,3 +20,4 @@ pub mod LotKeys
 pub mod Ends
 pub mod NextTo
 pub mod Subdivision
+pub mod LotsThere

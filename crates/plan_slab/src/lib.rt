@@ -25,6 +25,7 @@ mod strand;
 mod sweep;
 
 pub use fault::SlabFault;
+pub use feet::{foot, mediant_of};
 pub use lot::Lot;
 pub use row::Row;
 pub use slabs::Slabs;

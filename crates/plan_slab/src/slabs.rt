@@ -11,6 +11,7 @@ ghost use Rattle.plan_grid.specs.Fraction.{Fraction};
 ghost use Rattle.plan_slab.specs.Decomposition.{IsPlaced, AreInOrder};
 ghost use Rattle.plan_slab.specs.Heights.{IsHeightOn, IsOver};
 ghost use Rattle.plan_slab.specs.LotOrder.{index};
+ghost use Rattle.plan_slab.specs.LotsThere.{IsThere};
 ghost use Rattle.plan_slab.specs.Seen.{lot_seen};
 ghost use Rattle.plan_slab.specs.Subdivision.{slabs_of, regions_of, IsNumberOf};
 
@@ -172,6 +173,7 @@ impl Slabs {
         ensures value { lot_seen result ≡ spec.region_at (regions_of self.now) region }
         ensures lot { IsLot (slabs_of self.now) (lot_seen result) }
         ensures slab_count { length self.now.spans ≡ length self.now.lines - 1 }
+        ensures there { IsThere self.now (lot_seen result) }
     {
         self.lots[region as usize]
     }
