@@ -1,7 +1,7 @@
 -- Regions rise by their keys, so the numbers of lots are found by a binary search.
-use Rattle.std.proofs.Common.{◌≡◌, ◌⊎◌, inl, inr, ⊎_elim, ℕ, ◌<◌, ◌≤◌, pos, true, false, ltb, ltb-true, ltb-false, List, [], ◌∷◌, map, length, get_or, All, AllPairs, Contains, refl, sym, ap, ◌∙◌, subst, eq-or-lt_of_le, arith}
+use Rattle.std.proofs.Common.{◌≡◌, ◌⊎◌, inl, inr, ⊎_elim, ℕ, ◌+◌, ◌<◌, ◌≤◌, pos, true, false, ltb, ltb-true, ltb-false, List, [], ◌∷◌, map, length, get_or, All, AllPairs, Contains, refl, sym, ap, ◌∙◌, subst, eq-or-lt_of_le, arith}
 use Rattle.std.specs.List.Sorted.{IsPartitionPoint, IsNonDecreasingBy}
-use Rattle.std.proofs.lemmas.List.{get_or-map, length-map}
+use Rattle.std.proofs.lemmas.List.{get_or-map, get_or_default, length-map}
 use Rattle.std.proofs.lemmas.Bool.{cases_order, cases_lt}
 use Rattle.plan_spec.specs.Regions as spec
 use Rattle.plan_spec.specs.Regions.{IsLot, cell, wall}
@@ -15,6 +15,7 @@ use Rattle.plan_grid.specs.Fraction.{point_at}
 use Rattle.plan_slab.specs.SlabsSeen.{rows_seen}
 use Rattle.plan_slab.specs.Subdivision.{Subdivision, IsSubdivision, regions_of, slabs_of}
 use Rattle.plan_slab.proofs.SlabsSeen.{rows_at}
+use Rattle.plan_slab.proofs.XValues.{order_nat}
 
 -- ---- keys
 -- they are in the order of lots, where no index is great
@@ -65,21 +66,30 @@ first_from lots least n bound p = record {
   from = λ k d more within. let here : k < length lots = omega (arith, within, length-map lots lot_seen) in let e = get_or-map lot_seen lots k (unseen d) d here in omega (arith, ap key e, ltb-false _ _ (p.1 k (unseen d) more here));
 }
 
--- the lots between two of these numbers
-pub between : (found : List spec.Lot) (low high a b : ℕ) → IsFirstFrom found low a → IsFirstFrom found high b → AreBetween found low high a b
-between found low high a b from to n = (
-  λ h. (omega (arith, h.1, to.within), from.from n (cell 0 0) h.0 (omega (arith, h.1, to.within)), to.before n (cell 0 0) h.1),
+-- lots from that number on, one after another, as long as their keys are below a limit
+abbrev pub AreKeysBelow : List Lot → ℕ → ℕ → ℕ → Type 0
+AreKeysBelow lots high a b = (n : ℕ) (d : Lot) → a ≤ n → n < b → key (lot_seen (get_or lots n d)) < high
+
+pub one_more_below : (lots : List Lot) (high a b : ℕ) → AreKeysBelow lots high a b → b < length lots → key (lot_seen (get_or lots b (Cell 0 0))) < high → AreKeysBelow lots high a (b + 1)
+one_more_below lots high a b h within less n d from upto = ⊎_elim (λ lt. h n d from lt) (λ e. subst (λ n. key (lot_seen (get_or lots n d)) < high) (sym e) (subst (λ lot. key (lot_seen lot) < high) (get_or_default lots b (Cell 0 0) d within) less)) (order_nat n b upto)
+
+pub between : (lots : List Lot) (low high a b : ℕ) → IsFirstFrom (map lot_seen lots) low a → b ≤ length lots → AreKeysBelow lots high a b → ((n : ℕ) → b ≤ n → n < length lots → high ≤ key (lot_seen (get_or lots n (Cell 0 0)))) → AreBetween (map lot_seen lots) low high a b
+between lots low high a b first within below past n = (
+  λ h. let e = at (omega (arith, h.1, within)) in (omega (arith, h.1, within, length-map lots lot_seen), first.from n (cell 0 0) h.0 (omega (arith, h.1, within, length-map lots lot_seen)), omega (arith, ap key e, below n (Cell 0 0) h.0 h.1)),
   λ h. (
     elim (cases_lt n a) [
-      | inl less ↦ absurd (omega (arith, from.before n (cell 0 0) less, h.1))
+      | inl less ↦ absurd (omega (arith, first.before n (cell 0 0) less, h.1))
       | inr more ↦ more
     ],
     elim (cases_lt n b) [
       | inl less ↦ less
-      | inr more ↦ absurd (omega (arith, to.from n (cell 0 0) more h.0, h.2))
+      | inr more ↦ absurd (let here : n < length lots = omega (arith, h.0, length-map lots lot_seen) in omega (arith, ap key (at here), past n more here, h.2))
     ],
   ),
 )
+  where
+    at : n < length lots → spec.region_at (map lot_seen lots) n ≡ lot_seen (get_or lots n (Cell 0 0))
+    at here = get_or-map lot_seen lots n (Cell 0 0) (cell 0 0) here
 
 module _ (lots : List Lot) (few : All (λ lot. index lot < 131072) (map lot_seen lots)) (rising : AllPairs Earlier (map lot_seen lots)) where
   rises : (i j : ℕ) (d : spec.Lot) → i < j → j < length (map lot_seen lots) → key (get_or (map lot_seen lots) i d) < key (get_or (map lot_seen lots) j d)

@@ -1,5 +1,5 @@
 -- The neighbours of a cell or a wall have keys in one range.
-use Rattle.std.proofs.Common.{◌≡◌, ◌↔◌, inl, inr, ℕ, suc, ◌+◌, ◌-◌, ◌<◌, ◌≤◌, Bool, true, false, ◌||◌, ◌&&◌, eqb, leb, ltb, leb-true, leb-false, ltb-true, List, [], length, get_or, All, refl, sym, ap, ◌∙◌, subst, ◌⊎◌, ⊎_elim, zero, eq-or-lt_of_le, arith}
+use Rattle.std.proofs.Common.{◌≡◌, ◌↔◌, inl, inr, ℕ, suc, ◌+◌, ◌-◌, ◌<◌, ◌≤◌, Bool, true, false, ◌||◌, ◌&&◌, eqb, leb, leb-true, leb-false, ltb-true, List, [], length, get_or, All, refl, sym, ap, ◌∙◌, subst, ◌⊎◌, ⊎_elim, zero, eq-or-lt_of_le, arith}
 use Rattle.std.specs.List.Sorted.{IsNonDecreasingBy, IsPartitionPoint}
 use Rattle.std.proofs.lemmas.Bool.{and_parts, and_from, eq-eqb, eqb-true, le-leb, lt-ltb, cases_lt}
 use Rattle.plan_spec.specs.Slabs.{Slabs, spans_of, span_at, marks_of}

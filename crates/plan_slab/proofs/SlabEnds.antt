@@ -1,8 +1,7 @@
 -- The ends of the spans of a slab: of each the number on the left, paired with that on the right.
-use Rattle.std.proofs.Common.{◌≡◌, ℕ, suc, ◌+◌, ◌-◌, ◌<◌, ◌≤◌, List, [], length, map, get_or, All, sym, ap, ap₂, ◌∙◌, subst, arith}
-use Rattle.std.proofs.lemmas.List.{get_or_default, get_or-map, length-map}
+use Rattle.std.proofs.Common.{◌≡◌, ℕ, suc, ◌+◌, ◌<◌, List, [], length, map, get_or, All, sym, ap, ap₂, ◌∙◌, subst, arith}
+use Rattle.std.proofs.lemmas.List.{get_or_default}
 use Rattle.plan_spec.specs.Vector.{Vector}
-use Rattle.plan_spec.specs.Segment.{Segment}
 use Rattle.plan_spec.specs.Slabs.{Slabs, spans_of, marks_of}
 use Rattle.plan_grid.specs.Fraction.{Fraction}
 use Rattle.plan_slab.specs.declared.strand.Strand.{Strand}

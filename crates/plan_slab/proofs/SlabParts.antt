@@ -1,5 +1,5 @@
 -- What slabs keep, put together: regions are lots in their order, no more than spans and marks, and spans meet lines in their order.
-use Rattle.std.proofs.Common.{◌≡◌, ◌⊎◌, inl, inr, ⊎_elim, ℕ, suc, ◌+◌, ◌-◌, ◌<◌, ◌≤◌, pos, List, [], ◌∷◌, ◌++◌, length, map, get_or, sum_by, All, AllPairs, take, refl, sym, ap, ap₂, ◌∙◌, subst, arith}
+use Rattle.std.proofs.Common.{◌≡◌, inl, inr, ℕ, suc, ◌+◌, ◌-◌, ◌<◌, ◌≤◌, pos, List, [], ◌∷◌, ◌++◌, length, map, get_or, sum_by, All, AllPairs, take, refl, sym, ap, ap₂, ◌∙◌, subst, arith}
 use Rattle.std.specs.List.{AllZip, flat_map, range_with_len}
 use Rattle.std.proofs.lemmas.Bool.{cases_lt}
 use Rattle.std.proofs.lemmas.List.{get_or-map, get_or_default, get_or_past, length-map, length-append, map-append, take_more, flat_map_more}
@@ -25,15 +25,14 @@ use Rattle.plan_grid.specs.Spot.{spot_seen, spots_seen}
 use Rattle.plan_convex.specs.Convex.{IsPolygon}
 use Rattle.plan_convex.specs.Piece.{sums_seen}
 use Rattle.plan_slab.specs.declared.lot.Lot.{Lot}
-use Rattle.plan_slab.specs.declared.row.Row.{Row}
 use Rattle.plan_slab.specs.declared.strand.Strand.{Strand}
-use Rattle.plan_slab.specs.Decomposition.{AreInOrder, IsDecomposition}
+use Rattle.plan_slab.specs.Decomposition.{AreInOrder}
 use Rattle.plan_slab.specs.Ends.{AreEnds, AreTabled}
 use Rattle.plan_slab.specs.FreeLots.{AreFreeOf, AreRows}
 use Rattle.plan_slab.specs.Heights.{IsHeightOn}
 use Rattle.plan_slab.specs.Laws.{AreSlabsOf}
 use Rattle.plan_slab.specs.LotOrder.{Earlier}
-use Rattle.plan_slab.specs.Seen.{lot_seen, line_seen, strand_seen, marks_seen}
+use Rattle.plan_slab.specs.Seen.{lot_seen, strand_seen}
 use Rattle.plan_slab.specs.SlabsSeen.{rows_seen, slabs_seen}
 use Rattle.plan_slab.specs.Subdivision.{Subdivision, IsSubdivision, slabs_of, regions_of}
 use Rattle.plan_slab.proofs.Decomposition.{decomposition}

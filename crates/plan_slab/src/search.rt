@@ -15,13 +15,19 @@ pub fn first_from(lots: &[Lot], least: u64) -> usize
     lots.partition_point(|lot: &Lot| lot.key() < least)
 }
 
-/// The numbers of the lots from `from` on and before `to`.
+/// The numbers of the lots from `from` on and before `to`: by a search for the first one, and then one after another,
+/// since there are few.
 pub fn between(lots: &[Lot], from: Lot, to: Lot) -> Range<u32>
     requires few { length lots.now ≤ 131072 }
     requires rising { IsNonDecreasingBy (λ lot. key (lot_seen lot)) lots.now }
     ensures { AreBetween (map lot_seen lots.now) (key (lot_seen from)) (key (lot_seen to)) result.start result.end }
 {
     let start = first_from(lots, from.key());
-    let end = first_from(lots, to.key());
-    start as u32..end as u32
+    let limit = to.key();
+    for end in start..lots.len() {
+        if limit <= lots[end].key() {
+            return start as u32..end as u32;
+        }
+    }
+    start as u32..lots.len() as u32
 }

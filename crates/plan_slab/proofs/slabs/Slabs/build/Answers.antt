@@ -1,11 +1,8 @@
 -- What the slabs keep, from what each step finds.
-use Rattle.std.proofs.Common.{◌≡◌, ◌≤◌, List, map, length, All, sym, ap, ◌∙◌, subst, arith}
+use Rattle.std.proofs.Common.{map, All, sym, ap, ◌∙◌, subst}
 use Rattle.plan_spec.specs.Segment.{HasPoints}
 use Rattle.plan_spec.specs.Pieces.{Piece}
-use Rattle.plan_spec.specs.Regions.{AreRegions}
-use Rattle.plan_spec.specs.Slabs.{size}
-use Rattle.plan_grid.specs.Frame.{frame_seen}
-use Rattle.plan_convex.specs.Piece.{IsPieceInRange, sums_seen}
+use Rattle.plan_convex.specs.Piece.{IsPieceInRange}
 use Rattle.plan_slab.specs.Decomposition.{AreInOrder}
 use Rattle.plan_slab.specs.Ends.{AreEnds, AreTabled, AreNeighbourRows}
 use Rattle.plan_slab.specs.Seen.{lot_seen}
