@@ -9,4 +9,4 @@ mod Legs
 mod PathFaults
 pub mod ChainFaults
 pub mod Exclusion
-mod Scenes
+pub mod Scenes

@@ -1,7 +1,6 @@
 -- The closed parts of a line, added one after another.
 use Rattle.std.proofs.Common.{◌≡◌, ℕ, suc, ◌+◌, ◌-◌, ◌≤◌, Bool, true, false, List, [], ◌∷◌, ◌++◌, Contains, refl, sym, ap, ◌∙◌, subst, arith}
 use Rattle.std.proofs.lemmas.List.{get_or_default}
-use Rattle.plan_spec.specs.Vector.{Same}
 use Rattle.plan_spec.specs.Segment as spec
 use Rattle.plan_spec.specs.Segment.{segment}
 use Rattle.plan_spec.specs.Neighbours.{on_left, on_right}
@@ -9,8 +8,9 @@ use Rattle.plan_spec.specs.Regions.{Lot, cell, wall}
 use Rattle.plan_spec.specs.Rings.{has_wall, closed_parts, kept}
 use Rattle.plan_spec.specs.Slabs.{Slabs, mark_at}
 use Rattle.plan_cross.specs.declared.segment.Segment.{Segment}
+use Rattle.plan_cross.specs.Segment.{segment_seen}
 use Rattle.plan_slab.proofs.Decomposition.{wall_number}
-use Rattle.plan_ring.specs.Grown.{HasAdded, closed_part}
+use Rattle.plan_ring.specs.Grown.{IsLowestAt, HasAdded, closed_part}
 use Rattle.plan_ring.proofs.Added.{added_none, added_one, added_on}
 
 pub is_closed : (found : List Lot) (k j : ℕ) → ¬ (Contains found (wall k j)) → has_wall found k j ≡ false
@@ -53,14 +53,14 @@ module _ (σ : Slabs) (found : List Lot) (k i h j : ℕ) (next_line : h ≡ suc 
   by_marks l r u v = segment (mark_at σ k l) (mark_at σ h r) ∷ (closed_parts σ found h r (v - r) ++ (segment (mark_at σ k u) (mark_at σ h v) ∷ closed_parts σ found k l (u - l)))
 
   pub cell_added : (l r u v : ℕ) → l ≡ on_left σ k i → r ≡ on_right σ k i → u ≡ on_left σ k j → v ≡ on_right σ k j → (xs xs1 xs2 xs3 ys : List Segment) (s t : Segment)
-      → xs1 ≡ xs ++ s ∷ [] → Same s.a (mark_at σ k l) → Same s.b (mark_at σ h r) → HasAdded xs1 xs2 (closed_parts σ found h r (v - r))
-      → xs3 ≡ xs2 ++ t ∷ [] → Same t.a (mark_at σ k u) → Same t.b (mark_at σ h v) → HasAdded xs3 ys (closed_parts σ found k l (u - l)) → HasAdded xs ys (kept σ found (cell k i))
-  cell_added l r u v el er eu ev xs xs1 xs2 xs3 ys s t is1 sa sb right is3 ta tb left =
+      → xs1 ≡ xs ++ s ∷ [] → IsLowestAt (segment_seen s) (segment (mark_at σ k l) (mark_at σ h r)) → HasAdded xs1 xs2 (closed_parts σ found h r (v - r))
+      → xs3 ≡ xs2 ++ t ∷ [] → IsLowestAt (segment_seen t) (segment (mark_at σ k u) (mark_at σ h v)) → HasAdded xs3 ys (closed_parts σ found k l (u - l)) → HasAdded xs ys (kept σ found (cell k i))
+  cell_added l r u v el er eu ev xs xs1 xs2 xs3 ys s t is1 at_s right is3 at_t left =
       let lower = segment (mark_at σ k l) (mark_at σ h r) in
       let upper = segment (mark_at σ k u) (mark_at σ h v) in
-      let both : HasAdded xs2 ys (upper ∷ closed_parts σ found k l (u - l)) = added_on xs2 xs3 ys (upper ∷ []) (closed_parts σ found k l (u - l)) (added_one xs2 xs3 t upper is3 ta tb) left in
+      let both : HasAdded xs2 ys (upper ∷ closed_parts σ found k l (u - l)) = added_on xs2 xs3 ys (upper ∷ []) (closed_parts σ found k l (u - l)) (added_one xs2 xs3 t upper is3 at_t) left in
       let all : HasAdded xs ys (by_marks l r u v) =
-          added_on xs xs1 ys (lower ∷ []) (closed_parts σ found h r (v - r) ++ (upper ∷ closed_parts σ found k l (u - l))) (added_one xs xs1 s lower is1 sa sb) (added_on xs1 xs2 ys (closed_parts σ found h r (v - r)) (upper ∷ closed_parts σ found k l (u - l)) right both) in
+      added_on xs xs1 ys (lower ∷ []) (closed_parts σ found h r (v - r) ++ (upper ∷ closed_parts σ found k l (u - l))) (added_one xs xs1 s lower is1 at_s) (added_on xs1 xs2 ys (closed_parts σ found h r (v - r)) (upper ∷ closed_parts σ found k l (u - l)) right both) in
       let e : by_marks l r u v ≡ kept σ found (cell k i) = by_numbers l r u v el er (eu ∙ ap (on_left σ k) next_span) (ev ∙ ap (on_right σ k) next_span) in
       subst (HasAdded xs ys) e all
     where

@@ -8,12 +8,19 @@ use Rattle.plan_spec.specs.Regions.{Lot}
 use Rattle.plan_spec.specs.Rings.{ring, has_wall, part}
 use Rattle.plan_spec.specs.Slabs.{Slabs}
 use Rattle.plan_spec.specs.Walks.{IsComponent}
+use Rattle.plan_grid.specs.Bounds.{IsInRange}
 use Rattle.plan_cross.specs.declared.segment.Segment.{Segment}
 use Rattle.plan_cross.specs.Segment.{segment_seen}
 
--- end by end the same positions
+-- ends at the same positions, and in lowest terms
+pub record IsLowestAt (s t : spec.Segment) : Type 0 where
+  pub a : Same s.a t.a
+  pub b : Same s.b t.b
+  pub a_lowest : IsInRange s.a
+  pub b_lowest : IsInRange s.b
+
 abbrev pub AreAlike : List spec.Segment → List spec.Segment → Type 0
-AreAlike = AllZip (λ s t. Same s.a t.a × Same s.b t.b)
+AreAlike = AllZip IsLowestAt
 
 -- the new list is the old one with these segments behind it
 abbrev pub HasAdded : List Segment → List Segment → List spec.Segment → Type 0
@@ -27,4 +34,4 @@ closed_part σ found k j = if has_wall found k j then [] else part σ k j ∷ []
 pub record IsRingOf (σ : Slabs) (found : List Lot) (m : ℕ) (chain : List spec.Segment) : Type 0 where
   pub component : List ℕ
   pub is_component : IsComponent (AreNeighbours σ found) m component
-  pub is_ring : AreAlike chain (ring σ found component)
+  pub is_ring : AllZip (λ s t. Same s.a t.a × Same s.b t.b) chain (ring σ found component)

@@ -1,11 +1,14 @@
 //! The ring of a component.
 
-ghost use Rattle.std.specs.Prelude.{◌≡◌, ◌+◌, ◌-◌, ◌<◌, ◌≤◌, [], ◌∷◌, length, get_or, IfOk, OnOk};
+ghost use Rattle.std.specs.Prelude.{◌≡◌, ◌+◌, ◌-◌, ◌<◌, ◌≤◌, [], ◌∷◌, length, get_or, All, IfOk, OnOk};
+ghost use Rattle.plan_spec.specs.Segment.{segment};
 ghost use Rattle.plan_spec.specs.Vector.{Same};
+ghost use Rattle.plan_grid.specs.Bounds.{IsInRange};
+ghost use Rattle.plan_cross.specs.Segment.{segment_seen};
 ghost use Rattle.plan_spec.specs.Regions.{region_at, cell};
 ghost use Rattle.plan_spec.specs.Rings.{closed_parts, kept};
 ghost use Rattle.plan_spec.specs.Slabs.{mark_at};
-ghost use Rattle.plan_ring.specs.Grown.{HasAdded, IsRingOf, closed_part};
+ghost use Rattle.plan_ring.specs.Grown.{IsLowestAt, HasAdded, IsRingOf, closed_part};
 ghost use Rattle.plan_slab.specs.Subdivision.{slabs_of, regions_of};
 
 use crate::no_memory::NoMemory;
@@ -20,7 +23,8 @@ use std::alloc::{AllocError, Global};
 /// lesser end first. It must be a region of this map.
 pub fn ring(alloc: Global, map: &Map, region: Region) -> Result<Chain, NoMemory>
     requires { region.number < length (regions_of map.now) }
-    ensures { IfOk result (IsRingOf (slabs_of map.now) (regions_of map.now) region.number) }
+    ensures ring { IfOk result (IsRingOf (slabs_of map.now) (regions_of map.now) region.number) }
+    ensures in_range { IfOk result (λ chain. All (λ s. IsInRange s.a × IsInRange s.b) chain) }
 {
     let component = map.component(alloc, region)?;
     let mut segments = Vec::new(alloc);
@@ -42,7 +46,12 @@ fn keep(segments: &mut Vec<Segment>, slabs: &Slabs, region: u32) -> Result<(), A
 }
 
 // Adds the lower side, the closed parts of the right side, the upper side, and the closed parts of the left side.
-fn keep_cell(segments: &mut Vec<Segment>, slabs: &Slabs, slab: u32, at: u32) -> Result<(), AllocError>
+fn keep_cell(
+    segments: &mut Vec<Segment>,
+    slabs: &Slabs,
+    slab: u32,
+    at: u32,
+) -> Result<(), AllocError>
     requires slab { slab + 1 < length slabs.now.lines }
     requires at { at + 1 < length (get_or slabs.now.spans slab []) }
     ensures { OnOk result (HasAdded segments.old.items segments.new.items (kept (slabs_of slabs.now) (regions_of slabs.now) (cell slab at))) }
@@ -61,8 +70,7 @@ fn side(slabs: &Slabs, slab: u32, left: u32, right: u32) -> Segment
     requires slab { slab + 1 < length slabs.now.lines }
     requires low { left < length (get_or slabs.now.marks slab []) }
     requires high { right < length (get_or slabs.now.marks (slab + 1) []) }
-    ensures a { Same result.a (mark_at (slabs_of slabs.now) slab left) }
-    ensures b { Same result.b (mark_at (slabs_of slabs.now) (slab + 1) right) }
+    ensures { IsLowestAt (segment_seen result) (segment (mark_at (slabs_of slabs.now) slab left) (mark_at (slabs_of slabs.now) (slab + 1) right)) }
 {
     prove!(slabs.lines().len() <= 131_072);
     Segment {
@@ -72,7 +80,13 @@ fn side(slabs: &Slabs, slab: u32, left: u32, right: u32) -> Segment
 }
 
 // Adds the parts of a line from one mark to another that are no free walls.
-fn keep_parts(segments: &mut Vec<Segment>, slabs: &Slabs, line: u32, from: u32, to: u32) -> Result<(), AllocError>
+fn keep_parts(
+    segments: &mut Vec<Segment>,
+    slabs: &Slabs,
+    line: u32,
+    from: u32,
+    to: u32,
+) -> Result<(), AllocError>
     requires line { line < length slabs.now.lines }
     requires to { to < length (get_or slabs.now.marks line []) }
     ensures { OnOk result (HasAdded segments.old.items segments.new.items (closed_parts (slabs_of slabs.now) (regions_of slabs.now) line from (to - from))) }
@@ -84,7 +98,12 @@ fn keep_parts(segments: &mut Vec<Segment>, slabs: &Slabs, line: u32, from: u32, 
 }
 
 // Adds the part of a line above a mark, unless it is a free wall.
-fn keep_part(segments: &mut Vec<Segment>, slabs: &Slabs, line: u32, at: u32) -> Result<(), AllocError>
+fn keep_part(
+    segments: &mut Vec<Segment>,
+    slabs: &Slabs,
+    line: u32,
+    at: u32,
+) -> Result<(), AllocError>
     requires line { line < length slabs.now.lines }
     requires at { at + 1 < length (get_or slabs.now.marks line []) }
     ensures { OnOk result (HasAdded segments.old.items segments.new.items (closed_part (slabs_of slabs.now) (regions_of slabs.now) line at)) }
@@ -103,7 +122,8 @@ fn keep_part(segments: &mut Vec<Segment>, slabs: &Slabs, line: u32, at: u32) -> 
 fn mark(slabs: &Slabs, line: u32, at: u32) -> Point
     requires line { line < length slabs.now.lines }
     requires at { at < length (get_or slabs.now.marks line []) }
-    ensures { Same result (mark_at (slabs_of slabs.now) line at) }
+    ensures same { Same result (mark_at (slabs_of slabs.now) line at) }
+    ensures in_range { IsInRange result }
 {
     let x = slabs.lines()[line as usize];
     let y = slabs.marks(line)[at as usize];

@@ -23,7 +23,7 @@ returns c =
     let xs = c.args.segments.now.items in
     let ys = c.push.new.self.items in
     let next : c.args.at + 1 ≡ suc c.args.at = omega arith in
-    let upper : Same c.mark-b.result (mark_at (slabs_of s) c.args.line (suc c.args.at)) = subst (λ j. Same c.mark-b.result (mark_at (slabs_of s) c.args.line j)) next c.mark-b.ensures in
+    let upper : Same c.mark-b.result (mark_at (slabs_of s) c.args.line (suc c.args.at)) = subst (λ j. Same c.mark-b.result (mark_at (slabs_of s) c.args.line j)) next c.mark-b.ensures.same in
     let closed = is_closed (regions_of s) c.args.line c.args.at c.in_default.ensures in
     subst (λ b. HasAdded xs ys (if b then [] else part (slabs_of s) c.args.line c.args.at ∷ [])) (sym closed)
-    (added_one xs ys (record { a = c.mark-a.result; b = c.mark-b.result }) (part (slabs_of s) c.args.line c.args.at) c.in_ok-push.ensures.items c.mark-a.ensures upper)
+    (added_one xs ys (record { a = c.mark-a.result; b = c.mark-b.result }) (part (slabs_of s) c.args.line c.args.at) c.in_ok-push.ensures.items (record { a = c.mark-a.ensures.same; b = upper; a_lowest = c.mark-a.ensures.in_range; b_lowest = c.mark-b.ensures.in_range }))

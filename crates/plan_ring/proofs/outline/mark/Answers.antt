@@ -18,8 +18,8 @@ at-requires c =
     let on : IsHeightOn x (get_or c.marks.result.now c.args.at y) = subst (λ l. IsHeightOn l (get_or c.marks.result.now c.args.at y)) (sym e) (c.marks.ensures.on_line x c.args.at y inside) in
     few_multiples x y line (subst (IsHeightOn x) (sym c.index-marks-at.is) on)
 
-pub returns : goal.returns
-returns c =
+pub returns-clause-same : goal.returns-clause-same
+returns-clause-same c =
     let s = c.args.slabs.now in
     let x = c.index-lines-line.result in
     let y = c.index-marks-at.result in

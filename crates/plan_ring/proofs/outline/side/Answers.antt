@@ -1,2 +1,0 @@
--- ?
-use Rattle.plan_ring.proofs.outline.side.Goals as goal
