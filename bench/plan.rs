@@ -135,10 +135,6 @@ macro_rules! ordered {
 
 ordered!(Ratio Point Level);
 
-fn mediant(a: Ratio, b: Ratio) -> Ratio {
-    Ratio::new(a.num as i128 + b.num as i128, a.den as i128 + b.den as i128)
-}
-
 fn middle(a: Ratio, b: Ratio) -> Ratio {
     let l = lcm(a.den as u64, b.den as u64);
     Ratio::new(a.over(l) + b.over(l), 2 * l as i128)
@@ -864,6 +860,14 @@ fn row_of(lots: &[Lot], ends: &[Vec<(u32, u32)>], lot: Lot) -> Row {
 
 // ---- the map
 
+// The point halfway between two spans at the x of `z`.
+fn cell_point(low: Strand, high: Strand, z: Triple) -> Point {
+    let run = |s: Strand| s.b.x as i128 - s.a.x as i128;
+    let (p, q) = (run(low), run(high));
+    let doubled = |a: i128| (2 * (a * (p * q))) as i64;
+    Point::lowest(doubled(z.x), (foot(low, z).y * q + foot(high, z).y * p) as i64, doubled(z.w))
+}
+
 const NOWHERE: u32 = u32::MAX;
 
 fn visit(seen: &mut Vec<u32>, distances: &mut [Option<u32>], region: u32, steps: u32) {
@@ -962,9 +966,7 @@ impl Slabs {
         match self.lots[region as usize] {
             Lot::Cell { slab, at } => {
                 let (slab, at) = (slab as usize, at as usize);
-                let x = mediant(self.lines[slab], self.lines[slab + 1]);
-                let (low, high) = (self.spans[slab][at], self.spans[slab][at + 1]);
-                Point::at(x, middle(height(low.a, low.b, x), height(high.a, high.b, x)))
+                cell_point(self.spans[slab][at], self.spans[slab][at + 1], between_lines(self.lines[slab], self.lines[slab + 1]))
             }
             Lot::Wall { line, at } => {
                 let marks = &self.marks[line as usize];
