@@ -1,5 +1,5 @@
 -- Distances to a goal by what is true of neighbours, and ways down by steps to a nearer one.
-use Rattle.std.specs.Prelude.{◌≡◌, ℕ, suc, ◌≤◌, List, [], ◌∷◌, Option, Some}
+use Rattle.std.specs.Prelude.{◌≡◌, ℕ, suc, ◌≤◌, ◌<◌, List, [], ◌∷◌, Option, Some}
 
 -- the distance of n is known, and at most e
 pub record IsWithin (dist : ℕ → Option ℕ) (n e : ℕ) : Type 0 where
@@ -19,6 +19,26 @@ pub record AreDistances (next : ℕ → ℕ → Type 0) (goal : ℕ) (dist : ℕ
   pub only_goal : (n : ℕ) → dist n ≡ Some 0 → n ≡ goal
   pub down : (n d : ℕ) → dist n ≡ Some (suc d) → Nearer next dist n d
   pub around : (n m d : ℕ) → next n m → dist m ≡ Some d → IsWithin dist n (suc d)
+
+-- the same of a search that may end once until is seen: neighbours of what is nearer by more than one are known
+pub record AreDistancesUntil (next : ℕ → ℕ → Type 0) (goal : ℕ) (until : Option ℕ) (dist : ℕ → Option ℕ) : Type 0 where
+  pub at_goal : dist goal ≡ Some 0
+  pub only_goal : (n : ℕ) → dist n ≡ Some 0 → n ≡ goal
+  pub down : (n d : ℕ) → dist n ≡ Some (suc d) → Nearer next dist n d
+  pub around : (n m d : ℕ) → next n m → dist m ≡ Some d → ((r e : ℕ) → until ≡ Some r → dist r ≡ Some e → suc d < e) → IsWithin dist n (suc d)
+
+-- and of distances that are known below a bound
+pub record AreDistancesBelow (next : ℕ → ℕ → Type 0) (goal bound : ℕ) (dist : ℕ → Option ℕ) : Type 0 where
+  pub only_goal : (n : ℕ) → dist n ≡ Some 0 → n ≡ goal
+  pub at_goal : dist goal ≡ Some 0
+  pub around : (n m d : ℕ) → next n m → dist m ≡ Some d → suc d < bound → IsWithin dist n (suc d)
+
+-- until is seen
+pub record IsReached (until : Option ℕ) (dist : ℕ → Option ℕ) : Type 0 where
+  pub region : ℕ
+  pub distance : ℕ
+  pub until_is : until ≡ Some region
+  pub is_some : dist region ≡ Some distance
 
 -- n is the least of the neighbours whose distance is one less
 pub record IsLeastStep (next : ℕ → ℕ → Type 0) (dist : ℕ → Option ℕ) (r n : ℕ) : Type 0 where

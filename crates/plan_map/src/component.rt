@@ -16,7 +16,7 @@ pub fn component(alloc: Global, rows: &[Row], region: u32) -> Result<Vec<u32>, A
     requires rows { AreRows rows.now }
     ensures { IfOk result (λ found. IsComponent (in_row rows.now) region found.items) }
 {
-    let distances = distances(alloc, rows, region)?;
+    let distances = distances(alloc, rows, region, None)?;
     let found = measured(alloc, &distances)?;
     Ok(found)
 }

@@ -63,7 +63,7 @@ impl Map {
             (λ walk. IsFirstWalk (AreNeighbours (slabs_of self.now) (regions_of self.now)) from.number to.number walk.regions.items)) }
     {
         let rows = self.slabs.rows();
-        let distances = distances(alloc, rows, to.number)?;
+        let distances = distances(alloc, rows, to.number, Some(from.number))?;
         match first_walk(alloc, rows, &distances, from.number, to.number)? {
             Some(regions) => Ok(Some(Walk { regions })),
             None => Ok(None),

@@ -1,9 +1,9 @@
 -- The first of a rising row of neighbours whose distance is one less is the least, and there is one; steps to such ones make the first walk.
-use Rattle.std.proofs.Common.{◌≡◌, ℕ, suc, ◌≤◌, List, [], ◌∷◌, ◌++◌, Option, Some, All, refl, sym, ◌∙◌, subst, arith}
+use Rattle.std.proofs.Common.{◌≡◌, ℕ, suc, ◌≤◌, List, [], ◌∷◌, ◌++◌, Option, Some, All, refl, sym, ap, ◌∙◌, subst, arith}
 use Rattle.std.proofs.lemmas.List.{get_or_default, append-nil, append_assoc}
 use Rattle.std.proofs.lemmas.List.Elements.{All-contains}
 use Rattle.plan_spec.specs.Walks.{IsFirstWalk}
-use Rattle.plan_map.specs.Distances.{AreDistances, IsLeastStep, Descends, DescendsFrom}
+use Rattle.plan_map.specs.Distances.{AreDistancesBelow, Nearer, IsLeastStep, Descends, DescendsFrom}
 use Rattle.plan_map.specs.Search.{IsRow, IsFirstOf}
 use Rattle.plan_map.proofs.Graph.FirstWalk.{first_is_least, first_walk}
 
@@ -21,9 +21,9 @@ module _ {next : ℕ → ℕ → Type 0} {here : ℕ} {row : List ℕ} (is : IsR
         subst (λ x. x ≤ m) f.is l;
   }
 
-  pub some_step : (dist : ℕ → Option ℕ) (left goal : ℕ) → AreDistances next goal dist → dist here ≡ Some (suc left) → ¬ (All (λ m. ¬ (dist m ≡ Some left)) row)
-  some_step dist left goal measured from none =
-      let n = measured.down here left from in
+  pub some_step : (dist : ℕ → Option ℕ) (left : ℕ) → ((n d : ℕ) → dist n ≡ Some (suc d) → Nearer next dist n d) → dist here ≡ Some (suc left) → ¬ (All (λ m. ¬ (dist m ≡ Some left)) row)
+  some_step dist left down from none =
+      let n = down here left from in
       All-contains (λ m. ¬ (dist m ≡ Some left)) row n.at none ((is.exact n.at).1 (both_ways here n.at n.neighbour)) n.nearer
 
 -- ---- a way of steps
@@ -42,9 +42,9 @@ module _ {next : ℕ → ℕ → Type 0} {dist : ℕ → Option ℕ} {start : �
     whole = λ ns d. subst (DescendsFrom next dist start) (sym (append_assoc taken (n ∷ []) ns)) (w.whole (n ∷ ns) (s, d));
   }
 
-  pub way_ends : {here : ℕ} {taken : List ℕ} (goal : ℕ) → AreDistances next goal dist → IsOnWay next dist start here 0 taken → IsFirstWalk next start goal taken
-  way_ends {taken = taken} goal are w = by taken (subst (DescendsFrom next dist start) (append-nil taken) (w.whole [] w.distance))
+  pub way_ends : {here : ℕ} {taken : List ℕ} (goal bound : ℕ) → AreDistancesBelow next goal bound dist → dist start ≡ Some bound → IsOnWay next dist start here 0 taken → IsFirstWalk next start goal taken
+  way_ends {taken = taken} goal bound are is w = by taken (subst (DescendsFrom next dist start) (append-nil taken) (w.whole [] w.distance))
     where
       by : (ns : List ℕ) → DescendsFrom next dist start ns → IsFirstWalk next start goal ns
       by [] d = absurd d
-      by (n ∷ ns) (e, d) = subst (λ r. IsFirstWalk next r goal (n ∷ ns)) e (first_walk next goal dist are n ns d)
+      by (n ∷ ns) (e, d) = subst (λ r. IsFirstWalk next r goal (n ∷ ns)) e (first_walk next goal bound dist are n ns d (ap dist e ∙ is))

@@ -7,18 +7,31 @@ use Rattle.std.proofs.lemmas.Map.Made.{IsDistinct-from_AllPairs}
 use Rattle.std.proofs.lemmas.List.Folds.{Any-from_list_any}
 use Rattle.std.specs.List.{list_any}
 use Rattle.std.proofs.lemmas.List.{get_or_append_left, get_or_push, length_push, length-set, length-replicate, get_or-replicate, get_or_past, get_or_default}
-use Rattle.plan_map.specs.Distances.{IsWithin, AreDistances}
+use Rattle.plan_map.specs.Distances.{IsWithin, AreDistancesUntil, IsReached}
 use Rattle.plan_map.specs.Search.{at, nth, IsSearch}
 use Rattle.plan_map.proofs.Graph.Distances.{same_some}
 
 -- ---- the end
-pub finished : {next : ℕ → ℕ → Type 0} {count goal : ℕ} {seen : List ℕ} {head : ℕ} {dist : List (Option ℕ)} → IsSearch next count goal seen head dist → length seen ≤ head → AreDistances next goal (at dist)
-finished {next} {dist = dist} s all = record { at_goal = s.at_goal; only_goal = s.only_goal; down = s.down; around = around }
+-- all is before the head, or what is sought is seen
+pub finished : {next : ℕ → ℕ → Type 0} {count goal : ℕ} {seen : List ℕ} {head : ℕ} {dist : List (Option ℕ)} (until : Option ℕ) → IsSearch next count goal seen head dist → (length seen ≤ head) ⊎ IsReached until (at dist) → AreDistancesUntil next goal until (at dist)
+finished {next} {seen = seen} {head} {dist} until s ends = record { at_goal = s.at_goal; only_goal = s.only_goal; down = s.down; around = around }
   where
-    around : (n m d : ℕ) → next n m → at dist m ≡ Some d → IsWithin (at dist) n (suc d)
-    around n m d step e =
+    around : (n m d : ℕ) → next n m → at dist m ≡ Some d → ((r e : ℕ) → until ≡ Some r → at dist r ≡ Some e → suc d < e) → IsWithin (at dist) n (suc d)
+    around n m d step e far =
         let l = s.listed m d e in
-        s.around l.place n d (omega (arith, l.within)) l.within (subst (next n) (sym l.is) step) (ap (at dist) l.is ∙ e)
+        s.around l.place n d (behind_head ends (cases_lt l.place head)) l.within (subst (next n) (sym l.is) step) (ap (at dist) l.is ∙ e)
+      where
+        behind_head : (length seen ≤ head) ⊎ IsReached until (at dist) → (s.listed m d e).place < head ⊎ head ≤ (s.listed m d e).place → (s.listed m d e).place < head
+        behind_head ends (inl less) = less
+        behind_head (inl all) (inr g) = let l = s.listed m d e in omega (arith, all, l.within)
+        behind_head (inr r) (inr g) =
+            let l = s.listed m d e in
+            let here : head < length seen = omega (arith, g, l.within) in
+            let h = s.measured head here in
+            let q = s.listed r.region r.distance r.is_some in
+            let near = s.near q.place h.distance r.distance here q.within h.is_some (ap (at dist) q.is ∙ r.is_some) in
+            let up = s.rises head l.place h.distance d g l.within h.is_some (ap (at dist) l.is ∙ e) in
+            absurd (omega (arith, near, up, far r.region r.distance r.until_is r.is_some))
 
 -- ---- on to the next region, when all neighbours of this one are measured
 pub advanced : {next : ℕ → ℕ → Type 0} {count goal : ℕ} {seen : List ℕ} {head : ℕ} {dist : List (Option ℕ)} → IsSearch next count goal seen head dist → head < length seen

@@ -1,4 +1,6 @@
-use Rattle.std.proofs.Common.{◌<◌, length, arith}
+use Rattle.std.proofs.Common.{inl, inr, ◌<◌, length, refl, subst, arith}
+use Rattle.plan_map.specs.Distances.{IsReached}
+use Rattle.plan_map.specs.Search.{at}
 use Rattle.plan_map.proofs.Graph.Rows.{row_of}
 use Rattle.plan_map.proofs.Graph.Spreading.{starts, region_below, steps_below, goes_on, is_measured}
 use Rattle.plan_map.proofs.Graph.Steps.{bounded, finished}
@@ -32,4 +34,9 @@ loop-head-preserved c =
     ]
 
 pub returns-clause-value : goal.returns-clause-value
-returns-clause-value c = finished c.loop-head.invariant (omega (arith, c.loop-head-test.false, c.len.ensures))
+returns-clause-value c = finished c.args.until c.loop-head.invariant (inl (omega (arith, c.loop-head-test.false, c.len.ensures)))
+
+pub returns-then-is_reached-clause-value : goal.returns-then-is_reached-clause-value
+returns-then-is_reached-clause-value c =
+    let reached : IsReached c.args.until (at c.loop-head.distances.items) = subst (λ ds. IsReached c.args.until (at ds)) c.deref.ensures.value (c.if-is_reached.ensures refl) in
+    finished c.args.until c.loop-head.invariant (inr reached)
