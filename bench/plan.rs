@@ -1,6 +1,6 @@
 //! `planner plan` in plain Rust over i128, for comparison: the same loops on the same document, which is taken to be
-//! lawful. It reads the document on standard input and prints the lines of `plan`, and on standard error the times of the
-//! parts, the least of so many runs, and what was counted.
+//! lawful. It reads the document on standard input and prints the lines of `plan`. With a number of runs it prints on
+//! standard error the times of the parts, the least of so many runs, and what was counted.
 //! usage: plan [RUNS] < DOCUMENT
 use std::cmp::Ordering;
 use std::io::{Read, Write};
@@ -370,16 +370,28 @@ fn lowest(p: Parameter) -> Parameter {
 
 impl Part {
     fn starting_at(self, p: Parameter) -> Part {
-        if at_most(p, self.from) { self } else { Part { from: p, ..self } }
+        if at_most(p, self.from) {
+            self
+        } else {
+            Part { from: p, ..self }
+        }
     }
 
     fn ending_at(self, p: Parameter) -> Part {
-        if at_most(self.to, p) { self } else { Part { to: p, ..self } }
+        if at_most(self.to, p) {
+            self
+        } else {
+            Part { to: p, ..self }
+        }
     }
 
     fn where_not_negative(self, at_a: i128, at_b: i128) -> Part {
         if at_a < 0 {
-            if at_b < 0 { Part { from: ONE, to: ZERO } } else { self.starting_at(balance(-at_a, at_b)) }
+            if at_b < 0 {
+                Part { from: ONE, to: ZERO }
+            } else {
+                self.starting_at(balance(-at_a, at_b))
+            }
         } else if at_b < 0 {
             self.ending_at(balance(at_a, -at_b))
         } else {
@@ -394,7 +406,11 @@ impl Convex {
         for (u, v) in self.edges() {
             let (at_a, at_b) = (turn(u, v, a), turn(u, v, b));
             part = if at_a > 0 {
-                if at_b < 0 { part.ending_at(balance(at_a, -at_b)) } else { part }
+                if at_b < 0 {
+                    part.ending_at(balance(at_a, -at_b))
+                } else {
+                    part
+                }
             } else if at_b > 0 {
                 part.starting_at(balance(-at_a, at_b))
             } else {
@@ -966,7 +982,11 @@ impl Slabs {
         match self.lots[region as usize] {
             Lot::Cell { slab, at } => {
                 let (slab, at) = (slab as usize, at as usize);
-                cell_point(self.spans[slab][at], self.spans[slab][at + 1], between_lines(self.lines[slab], self.lines[slab + 1]))
+                cell_point(
+                    self.spans[slab][at],
+                    self.spans[slab][at + 1],
+                    between_lines(self.lines[slab], self.lines[slab + 1]),
+                )
             }
             Lot::Wall { line, at } => {
                 let marks = &self.marks[line as usize];
@@ -1211,7 +1231,8 @@ impl Document {
 
 // ---- times
 
-const PARTS: [&str; 9] = ["reading", "sums", "pieces", "sweep", "free lots", "neighbours", "labels", "answers", "printing"];
+const PARTS: [&str; 9] =
+    ["reading", "sums", "pieces", "sweep", "free lots", "neighbours", "labels", "answers", "printing"];
 
 // The microseconds of the parts.
 struct Times {

@@ -1,13 +1,12 @@
 //! Prints a document of `plan`, with 64 queries between clear spots; the same one each time.
 //! usage: scenes NAME COUNT [BLOCKED]
 //!
-//! NAME and COUNT are the kind and the number of obstacles: of `shelves` at most 60, the rows of pieces.rattle; of
-//! `aisles` at most 64, shelves that the robot goes round; of `random` any, triangles, those of pieces.rattle, where 512
-//! are asked for; of `stars` any, ten corners each; of `slivers` at most 64, thin triangles of which half cross the other
-//! half; of `needles` any, thin triangles in all directions; of `gaps` 27, walls with gaps exactly as high as the robot;
-//! of `slanted` at least 36, three slanted walls of twelve and what stands between them. BLOCKED is how many of the
-//! queries go from one part of the floor to another, of `slivers`, `gaps` and `slanted`. `planner` takes at most 64
-//! obstacles.
+//! NAME and COUNT are the kind and the number of obstacles. `shelves`, at most 60: the rows of pieces.rattle. `aisles`,
+//! at most 64: shelves that the robot goes round. `random`: triangles, where 512 are asked for those of pieces.rattle.
+//! `stars`: ten corners each. `slivers`, at most 64: thin triangles of which half cross the other half. `needles`: thin
+//! triangles in all directions. `gaps`, 27: walls with gaps exactly as high as the robot. `slanted`, at least 36: three
+//! slanted walls of twelve, and what stands between them. BLOCKED is how many of the queries go from one part of the
+//! floor to another, of `slivers`, `gaps` and `slanted`. The planner takes at most 64 obstacles.
 use std::env;
 
 #[derive(Clone, Copy, PartialEq, Eq)]
@@ -149,7 +148,9 @@ fn gaps(count: i64) -> Scene {
 
 // Three walls that lean to the right, and slanted bars anywhere.
 fn slanted(count: i64) -> Scene {
-    let bar = |x: i64, y: i64, run: i64, rise: i64| shape(&[(x, y), (x + 15, y), (x + run + 15, y + rise), (x + run, y + rise)]);
+    let bar = |x: i64, y: i64, run: i64, rise: i64| {
+        shape(&[(x, y), (x + 15, y), (x + run + 15, y + rise), (x + run, y + rise)])
+    };
     let foot = |wall: i64| 500 * wall - 650;
     let mut random = Random(1);
     let mut obstacle = |k| {
@@ -239,7 +240,9 @@ impl Scene {
         let queries = list((0..QUERIES).map(query).collect()).replace(' ', "");
         let frame = format!("{:?}", self.frame).replace(' ', "");
         let robot = text(&self.robot);
-        println!("{{\"format\":1,\"frame\":{frame},\"robot\":{robot},\"obstacles\":{obstacles},\"queries\":{queries}}}");
+        println!(
+            "{{\"format\":1,\"frame\":{frame},\"robot\":{robot},\"obstacles\":{obstacles},\"queries\":{queries}}}"
+        );
     }
 }
 
