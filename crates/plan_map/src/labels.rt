@@ -1,4 +1,4 @@
-//! Labels of connected components.
+//! Labels of connected components, written as a search writes distances: once, where there is none yet.
 
 ghost use Rattle.std.specs.Prelude.{◌≡◌, ◌+◌, ◌<◌, ◌^◌, IfOk, OnOk, length};
 ghost use Rattle.plan_map.specs.Labels.{AreLabels, IsFlood, HasLabels};
