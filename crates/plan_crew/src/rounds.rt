@@ -28,7 +28,11 @@ pub const MOST_LANES: usize = 8;
 
 /// The edits one after another, and beside them the questions of each lane that has a reader at its
 /// own place, each lane in a thread of its own. A lane that has none, or whose reader has seen more
-/// than the editor's last list, is answered at the round's last version. It may wait.
+/// than the editor's last list, is answered at the round's last version. Rounds count from 1. It may
+/// wait.
+///
+/// Where there is no memory, the lists of the editor and of the readers begin with those before, and
+/// the readers keep their places.
 pub fn round<J: Job, G: Gate, R: Threads + Wait + Sync>(
     rt: &R,
     alloc: Global,
