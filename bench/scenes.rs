@@ -97,18 +97,21 @@ fn stars(count: i64) -> Scene {
     Scene { frame: WHOLE, robot: shape(&[(-10, -15), (25, 0), (0, 30)]), obstacles, part: None }
 }
 
-// Half of them lie flat, half stand upright. Queries keep to where each part is closed.
-fn slivers(count: i64) -> Scene {
+// Half of them lie flat, half stand upright. All about them is one part, in which queries are where some are blocked.
+fn slivers(count: i64, is_blocked: bool) -> Scene {
     let half = count / 2;
     let place = move |k: i64| 1920 / half * k - 930;
     let flat = |k| shape(&[(-1000, place(k)), (1000, place(k) + 7), (-1000, place(k) + 1)]);
     let upright = |k| shape(&[(place(k), -1000), (place(k) + 1, -1000), (place(k) + 13, 1000)]);
-    let last = place(half - 1);
-    let inside = move |z: i64| -910 < z && z < last - 10;
     let part = move |z: Spot| {
         let below = (0..half).filter(|k| 2000 * (z.y - place(*k)) > 7 * (z.x + 1000)).count();
         let left = (0..half).filter(|k| 2000 * (z.x - place(*k)) > 12 * (z.y + 1000)).count();
-        (inside(z.x) && inside(z.y)).then_some(64 * below + left)
+        let within = 1..half as usize;
+        if within.contains(&below) && within.contains(&left) {
+            Some(64 * below + left)
+        } else {
+            is_blocked.then_some(0)
+        }
     };
     Scene {
         frame: WHOLE,
@@ -250,16 +253,17 @@ fn main() {
     let words: Vec<String> = env::args().skip(1).collect();
     let number = |i: usize| words.get(i).and_then(|word| word.parse::<i64>().ok());
     let count = number(1).expect("usage: scenes NAME COUNT [BLOCKED]");
+    let blocked = number(2).unwrap_or(0) as usize;
     let scene = match words[0].as_str() {
         "shelves" => shelves(count),
         "aisles" => aisles(count),
         "random" => random(count),
         "stars" => stars(count),
-        "slivers" => slivers(count),
+        "slivers" => slivers(count, blocked > 0),
         "needles" => needles(count),
         "gaps" => gaps(count),
         "slanted" => slanted(count),
         name => panic!("no scene {name}"),
     };
-    scene.print(number(2).unwrap_or(0) as usize);
+    scene.print(blocked);
 }
