@@ -69,3 +69,14 @@ IsRefusedFirst given (RobotNotSimple i j) = IsFirstWrongPair (spots_seen given.r
 IsRefusedFirst given (ObstacleAt at fault) = (alone : Scene) × IsAlone given alone × IsRefusedAt at fault given.obstacles alone
 IsRefusedFirst given TooManyRegions = (s : Scene) × IsWhole given s × IsTooLarge (scene_seen s)
 IsRefusedFirst given NoMemory = Unit {0}
+
+-- ---- of the edits that are left
+-- the scene with their obstacles, whatever its size
+abbrev pub IsMade : List Edit → Scene → Scene → Type 0
+IsMade adds s t = IsAddedAll (map obstacle_of adds) s t
+
+-- one of them is refused
+abbrev pub IsNotMade : List Edit → Scene → FirstFault → Type 0
+IsNotMade adds s (ObstacleAt at fault) = IsRefusedAt at fault (map obstacle_of adds) s
+IsNotMade adds s NoMemory = Unit {0}
+IsNotMade adds s _ = ⊥

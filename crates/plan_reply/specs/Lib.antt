@@ -2,3 +2,5 @@ pub mod Seen
 pub mod Step
 pub mod First
 pub mod Stand
+pub mod Path
+pub mod Laws

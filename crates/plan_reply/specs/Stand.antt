@@ -1,16 +1,19 @@
 -- What a stand knows of its scene, and what its replies are.
-use Rattle.std.specs.Prelude.{◌≤◌, ◌⊎◌, ℕ, List, length, true}
+use Rattle.std.specs.Prelude.{◌<◌, ◌≤◌, ℕ, List, length, All}
 use Rattle.plan_spec.specs.Vector.{Vector}
 use Rattle.plan_spec.specs.Answers.{Answer, start_touches, goal_touches, by_path, by_chain, IsRight}
+use Rattle.plan_spec.specs.Frame.{Frame}
 use Rattle.plan_spec.specs.Maps.{IsMapOf, IsGiven}
 use Rattle.plan_spec.specs.Neighbours.{AreNeighbours}
 use Rattle.plan_spec.specs.Placement as placement
-use Rattle.plan_spec.specs.Slabs.{size}
+use Rattle.plan_spec.specs.Regions.{Lot, IsIn}
+use Rattle.plan_spec.specs.Room.{IsRoom}
+use Rattle.plan_spec.specs.Slabs.{Slabs, size}
+use Rattle.plan_spec.specs.Walks.{AreJoined}
+use Rattle.plan_grid.specs.Bounds.{IsInRange}
 use Rattle.plan_scene.specs.Scene.{Scene, scene_seen}
 use Rattle.plan_check.specs.Verdict.{IsPathVerdict, IsChainVerdict, IsTightIn}
 use Rattle.plan_check.specs.declared.verdict.Verdict.TheVariants.{Valid}
-use Rattle.plan_spec.specs.Frame.{Frame}
-use Rattle.plan_spec.specs.Room.{IsRoom}
 use Rattle.plan_slab.specs.Subdivision.{Subdivision, slabs_of, regions_of}
 use Rattle.plan_map.specs.Labels.{AreLabels}
 
@@ -32,3 +35,21 @@ pub record IsReply (scene : placement.Scene) (s g : Vector) (answer : Answer) : 
   pub is_given : IsGiven scene s g answer
   pub is_right : IsRight scene s g answer
   pub is_valid : IsValid scene s g answer
+
+-- all points are in lowest terms and in the range of numbers that are printed
+abbrev pub IsLowestAnswer : Answer → Type 0
+IsLowestAnswer (by_path points) = All IsInRange points
+IsLowestAnswer (by_chain segments) = All (λ s. IsInRange s.a × IsInRange s.b) segments
+IsLowestAnswer _ = Unit {0}
+
+-- ---- parts: what walks join
+-- z is in a region of the scene's map, and of those that walks join to it the least is this one
+pub record IsPart (scene : placement.Scene) (z : Vector) (part : ℕ) : Type 0 where
+  pub slabs : Slabs
+  pub regions : List Lot
+  pub is_map : IsMapOf scene slabs regions
+  pub region : ℕ
+  pub is_in : IsIn slabs regions z region
+  pub within : part < length regions
+  pub joined : AreJoined (AreNeighbours slabs regions) part region
+  pub least : (n : ℕ) → n < length regions → AreJoined (AreNeighbours slabs regions) n region → part ≤ n

@@ -2,8 +2,12 @@
 //! touches.
 #![tactic(auto)]
 
+mod answer;
 mod fault;
+mod first;
+pub mod laws;
 mod no_memory;
+mod path;
 mod reply;
 mod stand;
 

@@ -1,0 +1,99 @@
+-- The part of a spot, by the labels of a map.
+use Rattle.std.proofs.Common.{◌≡◌, ℕ, ◌≤◌, ◌<◌, List, length, get_or, sym, subst, arith}
+use Rattle.plan_spec.specs.Vector.{Vector, IsPoint}
+use Rattle.plan_spec.specs.Answers.{by_chain}
+use Rattle.plan_spec.specs.Boundary.{IsClearOf}
+use Rattle.plan_spec.specs.Maps.{IsMapOf}
+use Rattle.plan_spec.specs.Neighbours.{AreNeighbours}
+use Rattle.plan_spec.specs.Placement.{Touches, IsClear}
+use Rattle.plan_spec.specs.Regions.{Lot, IsIn}
+use Rattle.plan_spec.specs.Segment.{Segment}
+use Rattle.plan_spec.specs.Slabs.{Slabs}
+use Rattle.plan_spec.specs.Walks.{AreJoined}
+use Rattle.plan_scene.specs.Scene.{Scene, scene_seen, IsScene}
+use Rattle.plan_slab.specs.Subdivision.{Subdivision, slabs_of, regions_of}
+use Rattle.plan_slab.proofs.Decomposition.{touched_of}
+use Rattle.plan_ring.proofs.Alike.AnswerGiven.{alike_maps}
+use Rattle.plan_ring.proofs.Alike.AnswerWalks.{one_region, same_next}
+use Rattle.plan_ring.proofs.Alike.SceneTriangles.{scene_triangles}
+use Rattle.plan_ring.proofs.Alike.Slabs.{AlikeSlabs}
+use Rattle.plan_reply.specs.Stand.{IsStand, IsPart, IsReply, IsLowestAnswer}
+use Rattle.plan_reply.proofs.Joined.{joined_on, joined_back, same_component}
+use Rattle.plan_reply.proofs.Longer.{ends_points}
+use Rattle.plan_reply.proofs.Replies.{floor, decomposed, clear_there, clear_here, chain_reply}
+
+module _ (scene : Scene) (is_scene : IsScene scene) (map : Subdivision) (labels : List ℕ) (stand : IsStand scene map labels) (z : Vector) (hz : IsPoint z) where
+  pub part_here : (region : ℕ) → IsIn (slabs_of map) (regions_of map) z region → IsPart (scene_seen scene) z (get_or labels region 0)
+  part_here region is = record {
+    slabs = slabs_of map;
+    regions = regions_of map;
+    is_map = stand.is_map;
+    region = region;
+    is_in = is;
+    within = stand.are_labels.below region is.is_region;
+    joined = stand.are_labels.joined region is.is_region;
+    least = λ n within j. stand.are_labels.least n region within is.is_region j;
+  }
+
+  pub touched_here : ¬ (IsClearOf stand.is_map.sums stand.is_map.room z) → Touches (scene_seen scene) z
+  touched_here h = ((floor scene is_scene stand.is_map).touches z hz).1 (touched_of stand.is_map.sums stand.is_map.room z h)
+
+-- ---- by any map of the scene
+-- the region of the map in which z is, and the least that is joined to it
+pub record IsPartBy (σ : Slabs) (found : List Lot) (z : Vector) (part : ℕ) : Type 0 where
+  pub region : ℕ
+  pub is_in : IsIn σ found z region
+  pub within : part < length found
+  pub joined : AreJoined (AreNeighbours σ found) part region
+  pub least : (n : ℕ) → n < length found → AreJoined (AreNeighbours σ found) n region → part ≤ n
+
+module _ (scene : Scene) (is_scene : IsScene scene) where
+  part_clear : (z : Vector) (part : ℕ) → IsPoint z → IsPart (scene_seen scene) z part → IsClear (scene_seen scene) z
+  part_clear z part hz p = clear_here scene is_scene p.is_map z hz ((decomposed scene is_scene p.is_map).clear p.region z p.is_in.is_region hz p.is_in.holds)
+
+  module _ {σ : Slabs} {found : List Lot} (m : IsMapOf (scene_seen scene) σ found) where
+    moved : {τ : Slabs} → AlikeSlabs τ σ → (z : Vector) (part : ℕ) → IsPoint z → IsClear (scene_seen scene) z → IsPartBy τ found z part → IsPartBy σ found z part
+    moved {τ} a z part hz c q =
+        let (n, it) = (decomposed scene is_scene m).covers z hz (clear_there scene is_scene m z hz c) in
+        let e : q.region ≡ n = one_region a found z q.region n hz q.is_in it in
+        let next = same_next a found in
+        record {
+          region = n;
+          is_in = it;
+          within = q.within;
+          joined = subst (λ r. AreJoined (AreNeighbours σ found) part r) e (subst (λ next. AreJoined next part q.region) next q.joined);
+          least = λ k within j. q.least k within (subst (λ next. AreJoined next k q.region) (sym next) (subst (λ r. AreJoined (AreNeighbours σ found) k r) (sym e) j));
+        }
+
+    pub part_by : (z : Vector) (part : ℕ) → IsPoint z → IsPart (scene_seen scene) z part → IsPartBy σ found z part
+    part_by z part hz p =
+        let maps = alike_maps (scene_seen scene) (scene_triangles scene is_scene) p.is_map m in
+        moved maps.slabs z part hz (part_clear z part hz p)
+        (subst (λ regions. IsPartBy p.slabs regions z part) maps.regions (record { region = p.region; is_in = p.is_in; within = p.within; joined = p.joined; least = p.least }))
+
+  pub one_ring : (s g t h : Vector) → IsPoint s → IsPoint g → IsPoint t → IsPoint h → (chain : List Segment) → IsLowestAnswer (by_chain chain) → IsReply (scene_seen scene) s g (by_chain chain)
+      → (part other : ℕ) → IsPart (scene_seen scene) s part → IsPart (scene_seen scene) t part → IsPart (scene_seen scene) h other → ¬ (part ≡ other) → IsReply (scene_seen scene) t h (by_chain chain)
+  one_ring s g t h hs hg ht hh chain lowest reply part other ps pt ph differ =
+      let given = reply.is_given in
+      let σ = given.slabs in
+      let found = given.regions in
+      let m = given.is_map in
+      let k = given.canonical.2 in
+      let a = part_by m s part hs ps in
+      let b = part_by m t part ht pt in
+      let c = part_by m h other hh ph in
+      let from : AreJoined (AreNeighbours σ found) part k.from = subst (AreJoined (AreNeighbours σ found) part) (k.starts.no_other a.region a.is_in.is_region a.is_in.holds) a.joined in
+      let both : AreJoined (AreNeighbours σ found) k.from b.region = joined_on σ found k.from part b.region (joined_back σ found part k.from from) b.joined in
+      chain_reply scene is_scene m t h ht hh chain (ends_points chain lowest) (part_clear t part ht pt) (part_clear h other hh ph) (record {
+        from = b.region;
+        to = c.region;
+        starts = b.is_in;
+        ends = c.is_in;
+        apart = λ j.
+            let low = b.least other c.within (joined_on σ found other c.region b.region c.joined (joined_back σ found b.region c.region j)) in
+            let high = c.least part b.within (joined_on σ found part b.region c.region b.joined j) in
+            differ (omega (arith, low, high));
+        component = k.component;
+        is_component = same_component σ found k.from b.region k.component both k.is_component;
+        is_ring = k.is_ring;
+      })
