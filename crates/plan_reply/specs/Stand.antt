@@ -1,11 +1,12 @@
 -- What a stand knows of its scene, and what its replies are.
-use Rattle.std.specs.Prelude.{◌≤◌, ◌⊎◌, ℕ, List, length, true}
+use Rattle.std.specs.Prelude.{◌≤◌, ◌⊎◌, ℕ, List, length, All, true}
 use Rattle.plan_spec.specs.Vector.{Vector}
 use Rattle.plan_spec.specs.Answers.{Answer, start_touches, goal_touches, by_path, by_chain, IsRight}
 use Rattle.plan_spec.specs.Maps.{IsMapOf, IsGiven}
 use Rattle.plan_spec.specs.Neighbours.{AreNeighbours}
 use Rattle.plan_spec.specs.Placement as placement
 use Rattle.plan_spec.specs.Slabs.{size}
+use Rattle.plan_grid.specs.Bounds.{IsInRange}
 use Rattle.plan_scene.specs.Scene.{Scene, scene_seen}
 use Rattle.plan_check.specs.Verdict.{IsPathVerdict, IsChainVerdict, IsTightIn}
 use Rattle.plan_check.specs.declared.verdict.Verdict.TheVariants.{Valid}
@@ -32,3 +33,9 @@ pub record IsReply (scene : placement.Scene) (s g : Vector) (answer : Answer) : 
   pub is_given : IsGiven scene s g answer
   pub is_right : IsRight scene s g answer
   pub is_valid : IsValid scene s g answer
+
+-- all points are in lowest terms and in the range of numbers that are printed
+abbrev pub IsLowestAnswer : Answer → Type 0
+IsLowestAnswer (by_path points) = All IsInRange points
+IsLowestAnswer (by_chain segments) = All (λ s. IsInRange s.a × IsInRange s.b) segments
+IsLowestAnswer _ = Unit {0}

@@ -5,7 +5,7 @@ ghost use Rattle.plan_scene.specs.Scene.{scene_seen, IsFrame};
 ghost use Rattle.plan_scene.specs.Edits.{IsEdit};
 ghost use Rattle.plan_reply.specs.First.{IsAdd, IsRobot, IsFirst, IsRefusedFirst, given_of};
 ghost use Rattle.plan_reply.specs.Seen.{answer_seen};
-ghost use Rattle.plan_reply.specs.Stand.{IsReply};
+ghost use Rattle.plan_reply.specs.Stand.{IsReply, IsLowestAnswer};
 ghost use Rattle.plan_reply.specs.Step.{IsStep, IsRefusedStep};
 ghost use Rattle.plan_reply.specs.declared.fault.StandFault.TheVariants.{TooManyRegions};
 
@@ -109,6 +109,7 @@ impl Stand {
         requires start { IsWithin MOST_COORDINATE query.start }
         requires goal { IsWithin MOST_COORDINATE query.goal }
         ensures reply { IfOk result (λ r. IsReply (scene_seen self.now) (spot_seen query.start) (spot_seen query.goal) (answer_seen r)) }
+        ensures lowest { IfOk result (λ r. IsLowestAnswer (answer_seen r)) }
     {
         Err(NoMemory)
     }
