@@ -15,6 +15,8 @@ mod faults;
 #[cfg(test)]
 mod paths;
 #[cfg(test)]
+mod plans;
+#[cfg(test)]
 mod polygons;
 #[cfg(test)]
 mod refusals;

@@ -14,6 +14,9 @@ pub const TOO_LONG: &str = "refused: too long\n";
 /// The line of a command that is not answered yet.
 pub const LATER: &str = "refused: later\n";
 
+/// The last line of `plan`.
+pub const END: &str = "end\n";
+
 /// The line of words that have none of the four forms.
 pub const USAGE: &str = "usage: planner plan N | session N | check | demo K N\n";
 
@@ -43,6 +46,7 @@ fn refusal_line(alloc: Global, refusal: &Refusal) -> Result<String, AllocError>
             format!(in alloc; "refused: robot not simple {i} {j}\n")
         }
         Refusal::Obstacle { at, fault } => obstacle_line(alloc, *at, *fault),
+        Refusal::TooManyRegions => String::from_str(alloc, "refused: too many regions\n"),
         Refusal::Later => String::from_str(alloc, LATER),
     }
 }
