@@ -1,5 +1,6 @@
 use crate::calls::{answer_to, column, expect, words_of};
 use crate::documents::{CORNER, document};
+use crate::scenes::{BAR, GAP, RING, TALL_BAR};
 use std::alloc::Global;
 use std::process::Abort;
 use std::test::Fail;
@@ -24,9 +25,6 @@ fn answers<R: Threads + Sync + Abort>(
     Ok(())
 }
 
-/// A bar from below the frame to above it.
-const TALL_BAR: &str = r#"[{"id":1,"shape":[[9,-5],[11,-5],[11,25],[9,25]]}]"#;
-
 /// A chain round the part left of the bar, with its ends in this order and in others, in lowest terms and not; from
 /// the right, where it is even; open; round the whole room; none; a flat and a loose segment, and which comes first.
 const BY_THE_TALL_BAR: &str =
@@ -42,26 +40,17 @@ const BY_THE_TALL_BAR: &str =
 [2,2,15,2] [[0,0,1,8,0,1],[7,0,1,7,19,1],[8,0,1,8,0,1]] 6 "invalid: loose 1\n"
 [2,2,15,2] [[0,0,1,8,0,1],[8,0,1,8,19,1],[0,19,1,8,19,1],[0,0,1,0,19,0]] 2 "refused: range $.certificate.chain[3]\n""#;
 
-/// A bar with nothing above it: its segment up to the frame is not tight.
-const BAR: &str = r#"[{"id":1,"shape":[[9,-5],[11,-5],[11,10],[9,10]]}]"#;
-
+/// Above the bar nothing stands: the segment up to the frame is not tight.
 const BY_THE_BAR: &str =
     r#"[2,2,15,2] [[0,0,1,8,0,1],[8,0,1,8,19,1],[0,19,1,8,19,1],[0,0,1,0,19,1]] 6 "invalid: loose 1\n"
 [2,2,9,2] [[8,0,1,11,0,1],[8,0,1,8,10,1],[8,10,1,11,10,1],[11,0,1,11,10,1]] 6 "invalid: start even\n"
 [9,2,2,2] [[8,0,1,11,0,1],[8,0,1,8,10,1],[8,10,1,11,10,1],[11,0,1,11,10,1]] 0 "valid\n""#;
 
-/// Two bars of which one stands on the floor and one hangs down, exactly as far apart as the robot is high.
-const GAP: &str =
-    r#"[{"id":1,"shape":[[9,-5],[11,-5],[11,10],[9,10]]},{"id":2,"shape":[[9,11],[11,11],[11,25],[9,25]]}]"#;
-
 const BY_THE_GAP: &str =
     r#"[2,2,15,2] [[0,0,1,8,0,1],[8,0,1,8,10,1],[8,11,1,8,19,1],[0,19,1,8,19,1],[0,0,1,0,19,1],[8,10,1,9,10,1],[8,11,1,9,10,1]] 0 "valid\n"
 [2,2,15,2] [[0,0,1,8,0,1],[8,0,1,8,10,1],[8,11,1,8,19,1],[0,19,1,8,19,1],[0,0,1,0,19,1],[8,10,1,8,11,1]] 6 "invalid: loose 5\n""#;
 
-/// A ring of four bars, and a chain round its inside.
-const RING: &str =
-    r#"[{"id":1,"shape":[[4,4],[6,4],[6,16],[4,16]]},{"id":2,"shape":[[14,4],[16,4],[16,16],[14,16]]},{"id":3,"shape":[[4,4],[16,4],[16,6],[4,6]]},{"id":4,"shape":[[4,14],[16,14],[16,16],[4,16]]}]"#;
-
+/// A chain round the inside of the ring.
 const BY_THE_RING: &str =
     r#"[9,9,2,2] [[6,6,1,13,6,1],[13,6,1,13,13,1],[6,13,1,13,13,1],[6,6,1,6,13,1]] 0 "valid\n"
 [2,2,9,9] [[6,6,1,13,6,1],[13,6,1,13,13,1],[6,13,1,13,13,1],[6,6,1,6,13,1]] 6 "invalid: start even\n""#;

@@ -1,5 +1,5 @@
 //! Whole runs of the planner: tables of words, documents, sources and sinks, with the code and the line that
-//! answer them. There are only tests here.
+//! answer them; and slabs, maps and rings of scenes, as text. There are only tests here.
 #![tactic(auto)]
 
 #[cfg(test)]
@@ -13,6 +13,8 @@ mod documents;
 #[cfg(test)]
 mod faults;
 #[cfg(test)]
+mod maps;
+#[cfg(test)]
 mod paths;
 #[cfg(test)]
 mod plans;
@@ -21,6 +23,10 @@ mod polygons;
 #[cfg(test)]
 mod refusals;
 #[cfg(test)]
+mod scenes;
+#[cfg(test)]
 mod sizes;
+#[cfg(test)]
+mod slabs;
 #[cfg(test)]
 mod words;

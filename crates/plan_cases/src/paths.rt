@@ -1,5 +1,6 @@
 use crate::calls::{answer_to, column, expect, words_of};
 use crate::documents::{CORNER, SPIKE, document};
+use crate::scenes::BAR;
 use std::alloc::Global;
 use std::process::Abort;
 use std::test::Fail;
@@ -151,9 +152,7 @@ const RATIONAL: &str = r#"[2,2,15,2] [[4,4,2],[17,19,2],[15,2,1]] 6 "invalid: to
 [2,2,2,2] [[2,2,1],[4611686018427387904,4611686018427387904,2305843009213693952]] 2 "refused: range $.certificate.path[1]\n"
 [2,2,2,2] [[2,2,1],[4503599627370496,4503599627370496,2251799813685248]] 0 "valid\n""#;
 
-/// A bar of four spots, and a path round it.
-const BAR: &str = r#"[{"id":1,"shape":[[9,-5],[11,-5],[11,10],[9,10]]}]"#;
-
+/// Round the bar, whose corner is cut; through it.
 const BY_THE_BAR: &str =
     r#"[2,2,15,2] [[2,2,1],[8,19,2],[16,29,2],[17,29,2],[18,29,2],[20,29,2],[22,29,2],[30,19,2],[15,2,1]] 0 "valid\n"
 [2,2,15,2] [[2,2,1],[8,19,2],[16,20,2],[22,29,2],[30,19,2],[15,2,1]] 6 "invalid: touches 1\n"

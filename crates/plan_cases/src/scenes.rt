@@ -1,0 +1,75 @@
+ghost use Rattle.std.specs.Prelude.{◌≤◌};
+ghost use Rattle.plan_wire.specs.Bounds.{ShapeFits};
+
+use plan_bound::uncovered;
+use plan_poly::{PolyFault, Polygon};
+use plan_scene::{Edit, Scene};
+use plan_slab::Slabs;
+use plan_watch::OpenGate;
+use plan_wire::{Document, Shape, Want, read_document};
+use std::alloc::Global;
+use std::test::Fail;
+use std::thread::Threads;
+
+/// The frame of 20 by 20 in which most scenes are.
+pub const FRAME: &str = "[0,0,20,20]";
+
+/// A bar that stands on the floor.
+pub const BAR: &str = r#"[{"id":1,"shape":[[9,-5],[11,-5],[11,10],[9,10]]}]"#;
+
+/// A bar from below the frame to above it.
+pub const TALL_BAR: &str = r#"[{"id":1,"shape":[[9,-5],[11,-5],[11,25],[9,25]]}]"#;
+
+/// Two bars of which one stands on the floor and one hangs down, exactly as far apart as the robot is high.
+pub const GAP: &str =
+    r#"[{"id":1,"shape":[[9,-5],[11,-5],[11,10],[9,10]]},{"id":2,"shape":[[9,11],[11,11],[11,25],[9,25]]}]"#;
+
+/// A ring of four bars.
+pub const RING: &str =
+    r#"[{"id":1,"shape":[[4,4],[6,4],[6,16],[4,16]]},{"id":2,"shape":[[14,4],[16,4],[16,16],[14,16]]},{"id":3,"shape":[[4,4],[16,4],[16,6],[4,6]]},{"id":4,"shape":[[4,14],[16,14],[16,16],[4,16]]}]"#;
+
+/// Two spikes whose edges cross at x = 44/5.
+pub const SPIKES: &str =
+    r#"[{"id":1,"shape":[[4,-5],[12,-5],[4,11]]},{"id":2,"shape":[[7,-7],[13,-7],[13,11]]}]"#;
+
+/// The scene of the corner robot among obstacles in a frame, all as a document gives them.
+pub fn scene_of(alloc: Global, frame: &str, obstacles: &str) -> Result<Scene, Fail> {
+    let text = format!(in alloc;
+        "{{\"format\":1,\"frame\":{frame},\"robot\":[[0,0],[1,0],[0,1]],\"obstacles\":{obstacles},\"query\":[0,0,0,0],\"certificate\":{{\"path\":[]}}}}"
+    )?;
+    let document = read_document(alloc, text.as_bytes(), Want::Check)?;
+    let robot = Polygon::read(document.robot)?;
+    let mut scene = Scene::new(alloc, robot, document.frame)?;
+    for shape in &document.obstacles {
+        scene = with_obstacle(alloc, &scene, shape)?;
+    }
+    Ok(scene)
+}
+
+// The scene with one more obstacle.
+fn with_obstacle(alloc: Global, scene: &Scene, shape: &Shape) -> Result<Scene, Fail>
+    requires { ShapeFits shape.now }
+{
+    let spots = Vec::from_slice(alloc, shape.spots.as_slice())?;
+    let edit = Edit::Add {
+        id: shape.id,
+        spots,
+    };
+    Ok(scene.apply(alloc, &edit)?)
+}
+
+/// The slabs of a scene, with 1 to 16 workers.
+pub fn slabs_of<R: Threads + Sync>(
+    rt: &R,
+    alloc: Global,
+    scene: &Scene,
+    workers: u8,
+) -> Result<Slabs, Fail>
+    requires least { 1 ≤ workers }
+    requires most { workers ≤ 16 }
+{
+    let sums = scene.sums();
+    let room = scene.room();
+    let pieces = uncovered(rt, alloc, sums, room, workers, &OpenGate)?;
+    Ok(Slabs::build(rt, alloc, &pieces, sums, room)?)
+}
