@@ -6,6 +6,7 @@ use Rattle.plan_spec.specs.Placement as placement
 use Rattle.plan_wire.specs.Stream.{Appends, AppendsPart}
 use Rattle.plan_wire.specs.Reading.{too_long, json, form, range}
 use Rattle.plan_wire.specs.Documents.{Document, Query, Certificate, path, chain, Task, queries, rounds, proof, document_of}
+use Rattle.plan_wire.specs.declared.documents.Want.{Want}
 use Rattle.plan_wire.specs.declared.documents.Want.TheVariants as want
 use Rattle.plan_wire.specs.declared.documents.Task as wire_task
 use Rattle.plan_wire.specs.declared.documents.Task.TheVariants as task
@@ -14,8 +15,10 @@ use Rattle.plan_check.specs.Verdict.{IsPathVerdict, IsChainVerdict, IsTightIn, B
 use Rattle.plan_check.specs.declared.verdict.Verdict.{Verdict}
 use Rattle.plan_check.specs.declared.verdict.Verdict.TheVariants as verdict
 use Rattle.plan_check.specs.declared.verdict.Verdict.TheVariants.{Valid}
-use Rattle.plan_top.specs.First.{IsFirst, IsRefusedFirst}
-use Rattle.plan_top.specs.Lines.{line_of}
+use Rattle.plan_reply.specs.First.{IsFirst}
+use Rattle.plan_top.specs.First.{IsRefusedBy}
+use Rattle.plan_top.specs.Lines.{line_of, refusal_line}
+use Rattle.plan_top.specs.Plan.{IsPlanned, IsBegun}
 use Rattle.plan_top.specs.declared.status.Refusal.{Refusal}
 use Rattle.plan_top.specs.declared.status.Refusal.TheVariants.{TooLong, Json, Form, Range, Later}
 use Rattle.plan_top.specs.declared.status.Status.{Status}
@@ -54,7 +57,13 @@ pub record IsJudged (d : Document) (verdict : Verdict) : Type 0 where
 pub record IsRefusedScene (d : Document) (refusal : Refusal) : Type 0 where
   pub given : Scene
   pub is_given : scene_seen given ≡ d.scene
-  pub is_refused : IsRefusedFirst given refusal
+  pub is_refused : IsRefusedBy given refusal
+
+-- what is asked is a plan
+abbrev pub IsOfPlan : wire_task.Task → Type 0
+IsOfPlan (task.Queries _) = Unit {0}
+IsOfPlan (task.Proof _ _) = ⊥
+IsOfPlan (task.Rounds _) = ⊥
 
 -- what is asked is a check
 abbrev pub IsOfCheck : wire_task.Task → Type 0
@@ -69,22 +78,22 @@ IsAnswerTo d (Refused refusal) = IsRefusedScene d refusal
 IsAnswerTo d _ = ⊥
 
 -- ---- what bytes are answered
--- P of the document of `check` that the bytes are
-abbrev pub OnDocument : List ℕ → (Document → Type 0) → Type 0
-OnDocument bytes P = IsOkAnd (document_of bytes want.Check) P
+-- P of the document of the wanted kind that the bytes are
+abbrev pub OnDocument : Want → List ℕ → (Document → Type 0) → Type 0
+OnDocument want bytes P = IsOkAnd (document_of bytes want) P
 
-abbrev pub IsRefusal : List ℕ → Refusal → Type 0
-IsRefusal bytes TooLong = document_of bytes want.Check ≡ Err too_long
-IsRefusal bytes Json = document_of bytes want.Check ≡ Err json
-IsRefusal bytes (Form place) = document_of bytes want.Check ≡ Err (form (string_bytes place))
-IsRefusal bytes (Range place) = document_of bytes want.Check ≡ Err (range (string_bytes place))
-IsRefusal bytes refusal = OnDocument bytes (λ d. IsRefusedScene d refusal)
+abbrev pub IsRefusal : Want → List ℕ → Refusal → Type 0
+IsRefusal want bytes TooLong = document_of bytes want ≡ Err too_long
+IsRefusal want bytes Json = document_of bytes want ≡ Err json
+IsRefusal want bytes (Form place) = document_of bytes want ≡ Err (form (string_bytes place))
+IsRefusal want bytes (Range place) = document_of bytes want ≡ Err (range (string_bytes place))
+IsRefusal want bytes refusal = OnDocument want bytes (λ d. IsRefusedScene d refusal)
 
 -- a lawful answer of `check` to the bytes, where they are told
 abbrev pub IsAnswer : Told → Status → Type 0
-IsAnswer told Done = IfSome told (λ bytes. OnDocument bytes (λ d. IsJudged d Valid))
-IsAnswer told (Invalid fault) = IfSome told (λ bytes. OnDocument bytes (λ d. IsJudged d (verdict.Invalid fault)))
-IsAnswer told (Refused refusal) = IfSome told (λ bytes. IsRefusal bytes refusal)
+IsAnswer told Done = IfSome told (λ bytes. OnDocument want.Check bytes (λ d. IsJudged d Valid))
+IsAnswer told (Invalid fault) = IfSome told (λ bytes. OnDocument want.Check bytes (λ d. IsJudged d (verdict.Invalid fault)))
+IsAnswer told (Refused refusal) = IfSome told (λ bytes. IsRefusal want.Check bytes refusal)
 IsAnswer told Usage = ⊥
 IsAnswer told ReadFault = ⊥
 IsAnswer told WriteFault = ⊥
@@ -108,6 +117,33 @@ CheckOutcome told left before after WriteFault =
 CheckOutcome told left before after NoMemory = after ≡ before
 CheckOutcome told left before after Usage = ⊥
 
+-- ---- what `plan` did
+-- a document of `plan` whose lines are the text; or whose first lines are
+abbrev pub IsPlanOf : Told → List ℕ → Type 0
+IsPlanOf told text = IfSome told (λ bytes. OnDocument want.Plan bytes (λ d. IsPlanned d text))
+
+abbrev pub IsBegunOf : Told → List ℕ → Type 0
+IsBegunOf told text = IfSome told (λ bytes. OnDocument want.Plan bytes (λ d. IsBegun d text))
+
+abbrev pub IsRefusalOf : Told → Refusal → Type 0
+IsRefusalOf told refusal = IfSome told (λ bytes. IsRefusal want.Plan bytes refusal)
+
+-- by its status: to the bytes of the source and what is left of them, and to the bytes of the sink before and after. Where the sink fails, a front of lawful lines is written; where there is no memory, nothing or whole lines of the first queries
+abbrev pub PlanOutcome : Told → Told → Told → Told → Status → Type 0
+PlanOutcome told left before after Done =
+    (text : List ℕ) × IsPlanOf told text × IsReadToEnd told left × Appends before after text
+PlanOutcome told left before after (Refused refusal) =
+    IsRefusalOf told refusal × Appends before after (refusal_line refusal)
+PlanOutcome told left before after ReadFault = after ≡ before
+PlanOutcome told left before after WriteFault =
+    ((text : List ℕ) × (IsPlanOf told text ⊎ IsBegunOf told text) × AppendsPart before after text)
+    ⊎ ((refusal : Refusal) × IsRefusalOf told refusal × AppendsPart before after (refusal_line refusal))
+PlanOutcome told left before after NoMemory =
+    (after ≡ before) ⊎ ((text : List ℕ) × IsBegunOf told text × Appends before after text)
+PlanOutcome told left before after Usage = ⊥
+PlanOutcome told left before after (Invalid _) = ⊥
+
+-- ---- what a line did
 -- the line of the answer is written, and the status is the answer; or a front of it is written, perhaps none of it, and the sink failed
 abbrev pub LineOutcome : Status → Told → Told → Status → Type 0
 LineOutcome answer before after status =
@@ -122,7 +158,7 @@ AnswerOutcome answer before after status = LineOutcome answer before after statu
 abbrev pub Outcome : Option Command → Told → Told → Told → Told → Status → Type 0
 Outcome None told left before after status = LineOutcome Usage before after status
 Outcome (Some Check) told left before after status = CheckOutcome told left before after status
-Outcome (Some (Plan _)) told left before after status = LineOutcome (Refused Later) before after status
+Outcome (Some (Plan _)) told left before after status = PlanOutcome told left before after status
 Outcome (Some (Session _)) told left before after status = LineOutcome (Refused Later) before after status
 Outcome (Some (Demo _ _)) told left before after status = LineOutcome (Refused Later) before after status
 

@@ -1,98 +1,59 @@
-ghost use Rattle.std.specs.Prelude.{◌≡◌, ◌≤◌, map, length, All, IfOk, MatchResult};
+ghost use Rattle.std.specs.Prelude.{◌≡◌, ◌≤◌, map, All, IfOk, MatchResult};
 ghost use Rattle.plan_wire.specs.Bounds.{FrameFits, ShapeFits, SpotsFit, AtMost};
 ghost use Rattle.plan_wire.specs.Documents.{most_bytes};
-ghost use Rattle.plan_scene.specs.Scene as spec;
-ghost use Rattle.plan_top.specs.First.{given_of, IsFirst, IsRefusedFirst, IsMade, IsNotMade, IsTaken, IsNotTaken, IsCause};
+ghost use Rattle.plan_reply.specs.First as reply;
+ghost use Rattle.plan_reply.specs.First.{IsAdd, IsFirst};
+ghost use Rattle.plan_top.specs.First.{obstacle_of, given_of, IsRefusedBy};
 
 use crate::no_memory::NoMemory;
 use crate::status::Refusal;
 use plan_grid::{Frame, Spot};
-use plan_poly::{PolyFault, Polygon};
-use plan_scene::{Edit, EditFault, Scene, SceneFault};
+use plan_reply::{FirstFault, Stand};
+use plan_scene::Edit;
+use plan_watch::Gate;
 use plan_wire::Shape;
-use std::alloc::{AllocError, Global};
+use std::alloc::Global;
+use std::thread::Threads;
 
-/// The first scene: the robot in the frame, and the obstacles put in one by one, in the order of the list; or the first
-/// refusal.
-pub fn first_scene(
+/// The stand of the first scene: the robot in the frame, and the obstacles put in one by one, in the order of the list;
+/// or the first refusal. 1 to 16 workers.
+pub fn first_stand<G: Gate>(
+    rt: &(impl Threads + Sync),
     alloc: Global,
     frame: Frame,
     robot: Vec<Spot>,
-    obstacles: &[Shape],
-) -> Result<Result<Scene, Refusal>, NoMemory>
+    obstacles: Vec<Shape>,
+    workers: u8,
+    gate: &G,
+) -> Result<Result<Stand, Refusal>, NoMemory>
     requires frame { FrameFits frame }
     requires robot { SpotsFit 16 robot.items }
-    requires obstacles { AtMost most_bytes ShapeFits obstacles.now }
+    requires obstacles { AtMost most_bytes ShapeFits obstacles.items }
+    requires least { 1 ≤ workers }
+    requires most { workers ≤ 16 }
     ensures { IfOk result (λ first. MatchResult first
-        (IsFirst (given_of frame robot.items obstacles.now))
-        (IsRefusedFirst (given_of frame robot.items obstacles.now))) }
+        (IsFirst (given_of frame robot.items obstacles.items))
+        (IsRefusedBy (given_of frame robot.items obstacles.items))) }
 {
-    let robot = match Polygon::read(robot) {
-        Ok(robot) => robot,
-        Err(PolyFault::NotSimple(i, j)) => return Ok(Err(Refusal::RobotNotSimple(i, j))),
-        Err(_) => unreachable!(),
-    };
-    let alone = match Scene::new(alloc, robot, frame) {
-        Ok(alone) => alone,
-        Err(SceneFault::NoMemory) => return Err(NoMemory),
-        Err(SceneFault::RobotMany(_)) => unreachable!(),
-    };
-    with_obstacles(alloc, alone, obstacles)
-}
-
-// The scene with the obstacles, put in one by one, or the first refusal.
-fn with_obstacles(
-    alloc: Global,
-    alone: Scene,
-    obstacles: &[Shape],
-) -> Result<Result<Scene, Refusal>, NoMemory>
-    requires { AtMost most_bytes ShapeFits obstacles.now }
-    ensures { IfOk result (λ first. MatchResult first
-        (IsMade obstacles.now alone) (IsNotMade obstacles.now alone)) }
-{
-    let mut scene = alone;
-    for at in 0..obstacles.len() {
-        match with_obstacle(alloc, &scene, &obstacles[at]) {
-            Ok(next) => scene = next,
-            Err(fault) => {
-                let fault = cause(fault)?;
-                return Ok(Err(Refusal::Obstacle {
-                    at: at as u32,
-                    fault,
-                }));
-            }
-        }
-    }
-    Ok(Ok(scene))
-}
-
-// The scene with one more obstacle, or why it is refused.
-fn with_obstacle(alloc: Global, scene: &Scene, shape: &Shape) -> Result<Scene, EditFault>
-    requires { ShapeFits shape.now }
-    ensures { MatchResult result (IsTaken scene.now shape.now) (IsNotTaken scene.now shape.now) }
-{
-    match Vec::from_slice(alloc, shape.spots.as_slice()) {
-        Ok(spots) => scene.apply(
-            alloc,
-            &Edit::Add {
-                id: shape.id,
-                spots,
-            },
-        ),
-        Err(_) => Err(EditFault::NoMemory),
+    let adds = adds_of(alloc, obstacles)?;
+    match Stand::first(rt, alloc, frame, robot, &adds, workers, gate) {
+        Ok(stand) => Ok(Ok(stand)),
+        Err(FirstFault::RobotNotSimple(i, j)) => Ok(Err(Refusal::RobotNotSimple(i, j))),
+        Err(FirstFault::Obstacle { at, fault }) => Ok(Err(Refusal::Obstacle { at, fault })),
+        Err(FirstFault::TooManyRegions) => Ok(Err(Refusal::TooManyRegions)),
+        Err(FirstFault::NoMemory) => Err(NoMemory),
     }
 }
 
-// The fault, where it is not want of memory.
-fn cause(fault: EditFault) -> Result<EditFault, NoMemory>
-    ensures { IfOk result (λ known. (known ≡ fault) × IsCause known) }
+// The edits that add the obstacles, one by one.
+fn adds_of(alloc: Global, obstacles: Vec<Shape>) -> Result<Vec<Edit>, NoMemory>
+    requires { All ShapeFits obstacles.items }
+    ensures adds { IfOk result (λ v. All IsAdd v.items) }
+    ensures given { IfOk result (λ v. map (λ e. reply.obstacle_of e) v.items ≡ map obstacle_of obstacles.items) }
 {
-    match fault {
-        EditFault::NoMemory => Err(NoMemory),
-        EditFault::Duplicate(_) => Ok(fault),
-        EditFault::Unknown(_) => Ok(fault),
-        EditFault::NotSimple(_, _) => Ok(fault),
-        EditFault::TooManyObstacles => Ok(fault),
-        EditFault::TooManySums(_) => Ok(fault),
+    let mut adds = Vec::with_capacity(alloc, obstacles.len())?;
+    for Shape { id, spots } in obstacles {
+        adds.push(Edit::Add { id, spots })?;
     }
+    Ok(adds)
 }

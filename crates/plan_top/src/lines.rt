@@ -43,6 +43,7 @@ fn refusal_line(alloc: Global, refusal: &Refusal) -> Result<String, AllocError>
             format!(in alloc; "refused: robot not simple {i} {j}\n")
         }
         Refusal::Obstacle { at, fault } => obstacle_line(alloc, *at, *fault),
+        Refusal::TooManyRegions => String::from_str(alloc, "refused: too many regions\n"),
         Refusal::Later => String::from_str(alloc, LATER),
     }
 }

@@ -39,6 +39,8 @@ pub enum Refusal {
     /// The obstacle of this place in the list, counted from 0, is the first that is refused, for this fault, which is
     /// never want of memory.
     Obstacle { at: u32, fault: EditFault },
+    /// The map of the first scene has more than 131,072 spans and marks.
+    TooManyRegions,
     /// It is a command that is not answered yet.
     Later,
 }
