@@ -1,4 +1,5 @@
 use plan_top::run;
+use plan_watch::OpenGate;
 use plan_wire::{Sink, Source, SteadySink, SteadySource};
 use std::alloc::Global;
 use std::process::Abort;
@@ -23,7 +24,7 @@ pub fn answer_from<R: Threads + Sync, S: Source>(
     words: &[String],
     source: &mut S,
 ) -> Result<String, Fail> {
-    let mut sink = SteadySink::new(alloc, 100)?;
+    let mut sink = SteadySink::new(alloc, 10_000)?;
     let code = code_of(rt, alloc, words, source, &mut sink);
     written(alloc, code, sink.bytes())
 }
@@ -36,7 +37,7 @@ pub fn code_of<R: Threads + Sync, S: Source, K: Sink>(
     source: &mut S,
     sink: &mut K,
 ) -> u8 {
-    run(rt, alloc, words, source, sink).code()
+    run(rt, alloc, words, source, sink, &OpenGate).code()
 }
 
 /// A code and what was written, as `0 "valid\n"`.

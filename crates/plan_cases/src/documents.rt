@@ -19,6 +19,18 @@ pub fn document(
     )
 }
 
+/// A document of `plan` in the same frame.
+pub fn plan_document(
+    alloc: Global,
+    robot: &str,
+    obstacles: &str,
+    queries: &str,
+) -> Result<String, AllocError> {
+    format!(in alloc;
+        "{{\"format\":1,\"frame\":[0,0,20,20],\"robot\":{robot},\"obstacles\":{obstacles},\"queries\":{queries}}}"
+    )
+}
+
 /// The document of one point, which is clear. It has 166 bytes.
 pub fn one_point(alloc: Global) -> Result<String, AllocError> {
     document(alloc, CORNER, SPIKE, "[2,2,2,2]", "{\"path\":[[2,2,1]]}")

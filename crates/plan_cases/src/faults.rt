@@ -43,7 +43,9 @@ check 100 1 6 4 "valid"
 check 0 100 1000 4 ""
 check 3 100 1000 4 "val"
 plan|3 100 100 1 4 ""
-plan|3 100 1 1000 2 "refused: later\n"
+plan|3 100 1 1000 2 "refused: form $.queries\n"
+session|3 100 100 1 4 ""
+session|3 100 1 1000 2 "refused: later\n"
 chek 100 100 1 4 ""
 chek 6 100 1000 4 "usage:""#;
 

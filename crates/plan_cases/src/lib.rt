@@ -17,6 +17,8 @@ mod maps;
 #[cfg(test)]
 mod paths;
 #[cfg(test)]
+mod plans;
+#[cfg(test)]
 mod polygons;
 #[cfg(test)]
 mod refusals;

@@ -5,9 +5,9 @@ use std::test::Fail;
 
 /// Words, parted by bars, and what is told over a document that is valid.
 const WORDS: &str = r#"check=0 "valid\n"
-plan|3=2 "refused: later\n"
-plan|1=2 "refused: later\n"
-plan|16=2 "refused: later\n"
+plan|3=2 "refused: form $.queries\n"
+plan|1=2 "refused: form $.queries\n"
+plan|16=2 "refused: form $.queries\n"
 session|9=2 "refused: later\n"
 demo|1000|16=2 "refused: later\n"
 demo|1|1=2 "refused: later\n"
@@ -50,9 +50,17 @@ fn words_of_the_four_forms_are_answered_and_all_others_are_usage(
 }
 
 #[test]
-fn check_alone_reads_its_source_and_reads_it_to_the_end(rt: HostRuntime) -> Result<(), Fail> {
+fn plan_and_check_alone_read_their_source_and_read_it_to_the_end(
+    rt: HostRuntime,
+) -> Result<(), Fail> {
     let alloc = rt.alloc();
-    for (words, left) in [("plan|3", 7), ("demo|1|1", 7), ("plan|0", 7), ("check", 0)] {
+    for (words, left) in [
+        ("plan|3", 0),
+        ("session|3", 7),
+        ("demo|1|1", 7),
+        ("plan|0", 7),
+        ("check", 0),
+    ] {
         let mut source = SteadySource::new(b"{\"a\":1}".to_vec(alloc)?);
         let all = words_of(alloc, words)?;
         answer_from(&rt, alloc, all.as_slice(), &mut source)?;

@@ -15,7 +15,8 @@ use Rattle.plan_wire.specs.declared.documents.Shape.{Shape}
 use Rattle.plan_scene.specs.Scene.{Scene, scene_seen, obstacle_seen}
 use Rattle.plan_check.specs.Verdict.{IsVerdict, BlocksWhereAccepted}
 use Rattle.plan_check.specs.declared.verdict.Verdict.{Verdict}
-use Rattle.plan_top.specs.First.{IsFirst, given_of, obstacle_of}
+use Rattle.plan_reply.specs.First.{IsFirst}
+use Rattle.plan_top.specs.First.{given_of, obstacle_of}
 use Rattle.plan_top.specs.Outcome.{IsVerdictOn}
 use Rattle.plan_top.proofs.Firsts.{touches_alike}
 use Rattle.plan_top.proofs.Alike.{path_alike, blocks_alike}
@@ -34,7 +35,7 @@ pub on_document : (seen : placement.Scene) (given first : Scene) (query : cross.
 on_document seen given first query certificate verdict is_given is_first h b = by certificate h b
   where
     alike : (p : Vector) → IsPoint p → Touches (scene_seen first) p ↔ Touches seen p
-    alike p hp = let t = touches_alike p given first is_first in subst (λ s. Touches (scene_seen first) p ↔ Touches s p) is_given (t.1, t.0)
+    alike p hp = let t = touches_alike p given first is_first.0 in subst (λ s. Touches (scene_seen first) p ↔ Touches s p) is_given (t.1, t.0)
 
     by : (certificate : Certificate) → IsVerdict (scene_seen first) (spot_seen query.start) (spot_seen query.goal) certificate verdict → BlocksWhereAccepted (scene_seen first) (spot_seen query.start) (spot_seen query.goal) certificate verdict → IsVerdictOn seen first (query_seen query) (certificate_seen certificate) verdict
     by (Path points) h b = path_alike (scene_seen first) seen alike (spot_seen query.start) (spot_seen query.goal) points verdict h

@@ -1,9 +1,7 @@
 pub mod Digits
 mod CommandCases
 pub mod Outcomes
-mod Kept
-mod ReadsProof
-mod Made
+mod ReadsTask
 mod Firsts
 mod Alike
 mod Judged
@@ -14,3 +12,8 @@ mod Exclusion
 mod OneRefusal
 mod ReadsPoints
 mod OneAnswer
+mod Workers
+mod Adds
+mod Replies
+mod RightAlike
+mod Planned

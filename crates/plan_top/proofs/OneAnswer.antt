@@ -7,13 +7,13 @@ use Rattle.plan_wire.specs.Documents.{Document, document_of}
 use Rattle.plan_wire.specs.declared.documents.Want.TheVariants.{Check}
 use Rattle.plan_check.specs.declared.verdict.Verdict.TheVariants.{Valid, Invalid as InvalidBy}
 use Rattle.plan_check.specs.declared.verdict.Verdict.{Verdict}
-use Rattle.plan_top.specs.First.{IsRefusedFirst}
+use Rattle.plan_top.specs.First.{IsRefusedBy}
 use Rattle.plan_top.specs.Laws.{IsOfPoints, SameAnswer, OneAnswer}
 use Rattle.plan_top.specs.Lines.{line, line_of}
 use Rattle.plan_top.specs.Outcome.{IsJudged, IsRefusedScene, IsAnswer, IsAnswerTo}
 use Rattle.plan_top.specs.Status.{code_of}
 use Rattle.plan_top.specs.declared.status.Refusal.{Refusal}
-use Rattle.plan_top.specs.declared.status.Refusal.TheVariants.{TooLong, Json, Form, Range, RobotNotSimple, Obstacle, Later}
+use Rattle.plan_top.specs.declared.status.Refusal.TheVariants.{TooLong, Json, Form, Range, RobotNotSimple, Obstacle, TooManyRegions, Later}
 use Rattle.plan_top.specs.declared.status.Status.{Status}
 use Rattle.plan_top.specs.declared.status.Status.TheVariants.{Done, Usage, Refused, ReadFault, WriteFault, NoMemory, Invalid}
 use Rattle.plan_top.proofs.Exclusion.{valid_or_invalid, one_first_fault}
@@ -50,6 +50,7 @@ module _ (bytes : List ℕ) (r : reading.Refusal) (e : document_of bytes Check �
   told (Refused (Range p)) h = (refl, by_reason (reading.range _) h)
   told (Refused (RobotNotSimple i j)) h = absurd (no_document _ h)
   told (Refused (Obstacle at f)) h = absurd (no_document _ h)
+  told (Refused TooManyRegions) h = absurd (no_document _ h)
   told (Refused Later) h = absurd (no_document _ h)
   told Usage h = absurd h
   told ReadFault h = absurd h
@@ -73,6 +74,7 @@ module _ (bytes : List ℕ) (d : Document) (e : document_of bytes Check ≡ Ok d
   answers (Refused (Range p)) h = absurd (no_reason (reading.range _) h)
   answers (Refused (RobotNotSimple i j)) h = is_read _ h
   answers (Refused (Obstacle at f)) h = is_read _ h
+  answers (Refused TooManyRegions) h = is_read _ h
   answers (Refused Later) h = is_read _ h
   answers Usage h = h
   answers ReadFault h = h
@@ -80,7 +82,7 @@ module _ (bytes : List ℕ) (d : Document) (e : document_of bytes Check ≡ Ok d
   answers NoMemory h = h
 
 judged_or_refused : (d : Document) (v : Verdict) (r : Refusal) → IsJudged d v → ¬ (IsRefusedScene d r)
-judged_or_refused d v r h k = first_or_refused h.given h.first r h.is_first (subst (λ g. IsRefusedFirst g r) (one_given k.given h.given d.scene k.is_given h.is_given) k.is_refused)
+judged_or_refused d v r h k = first_or_refused h.given h.first r h.is_first (subst (λ g. IsRefusedBy g r) (one_given k.given h.given d.scene k.is_given h.is_given) k.is_refused)
 
 one_status : (d : Document) → IsOfPoints d → (s t : Status) → IsAnswerTo d s → IsAnswerTo d t → s ≡ t
 one_status d ends Done Done h k = refl
@@ -91,7 +93,7 @@ one_status d ends (Invalid f) (Invalid g) h k = ap Invalid (one_first_fault d f 
 one_status d ends (Invalid f) (Refused r) h k = absurd (judged_or_refused d (InvalidBy f) r h k)
 one_status d ends (Refused q) Done h k = absurd (judged_or_refused d Valid q k h)
 one_status d ends (Refused q) (Invalid f) h k = absurd (judged_or_refused d (InvalidBy f) q k h)
-one_status d ends (Refused q) (Refused r) h k = ap Refused (one_refusal h.given q r h.is_refused (subst (λ g. IsRefusedFirst g r) (one_given k.given h.given d.scene k.is_given h.is_given) k.is_refused))
+one_status d ends (Refused q) (Refused r) h k = ap Refused (one_refusal h.given q r h.is_refused (subst (λ g. IsRefusedBy g r) (one_given k.given h.given d.scene k.is_given h.is_given) k.is_refused))
 one_status d ends Usage t h k = absurd h
 one_status d ends ReadFault t h k = absurd h
 one_status d ends WriteFault t h k = absurd h

@@ -5,7 +5,7 @@ use Rattle.plan_spec.specs.Frame as spec_frame
 use Rattle.plan_grid.specs.declared.frame.Frame.{Frame}
 use Rattle.plan_scene.specs.Scene.{Scene, Obstacle, obstacle, obstacle_seen, scene, scene_seen, with_obstacle, with_obstacles}
 use Rattle.plan_scene.specs.Edits.{IsAdded}
-use Rattle.plan_top.specs.First.{IsFirst, IsAlone, IsAddedAll}
+use Rattle.plan_reply.specs.First.{IsFirst, IsWhole, IsAlone, IsAddedAll}
 use Rattle.plan_top.proofs.OneKept.{one_kept, unseen, unseen_is}
 
 -- ---- a scene, by what is seen of it
@@ -41,5 +41,8 @@ one_added_all (o ∷ os) s t u (next, one, rest) (other, two, more) =
 pub one_alone : (given s t : Scene) → IsAlone given s → IsAlone given t → s ≡ t
 one_alone given s t h k = h.is_scene ∙ ap (λ kept. scene kept given.frame []) (one_kept given.robot h.kept k.kept h.is_read k.is_read) ∙ sym k.is_scene
 
+pub one_whole : (given s t : Scene) → IsWhole given s → IsWhole given t → s ≡ t
+one_whole given s t (a, is_a, h) (b, is_b, k) = one_added_all given.obstacles a s t h (subst (λ z. IsAddedAll given.obstacles z t) (sym (one_alone given a b is_a is_b)) k)
+
 pub one_first : (given s t : Scene) → IsFirst given s → IsFirst given t → s ≡ t
-one_first given s t (a, is_a, h) (b, is_b, k) = one_added_all given.obstacles a s t h (subst (λ z. IsAddedAll given.obstacles z t) (sym (one_alone given a b is_a is_b)) k)
+one_first given s t h k = one_whole given s t h.0 k.0

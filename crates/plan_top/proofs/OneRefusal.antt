@@ -5,14 +5,17 @@ use Rattle.plan_spec.specs.Vector.{Vector}
 use Rattle.plan_spec.specs.SimplePolygon.{IsSimple, IsFirstWrongPair}
 use Rattle.plan_grid.specs.declared.spot.Spot.{Spot}
 use Rattle.plan_grid.specs.Spot.{spots_seen}
-use Rattle.plan_scene.specs.Scene.{Scene, Obstacle}
+use Rattle.plan_spec.specs.Maps.{IsMapped, IsTooLarge}
+use Rattle.plan_scene.specs.Scene.{Scene, Obstacle, scene_seen}
 use Rattle.plan_scene.specs.Edits.{IsAdded, IsNotAdded}
 use Rattle.plan_scene.specs.declared.fault.EditFault.{EditFault}
 use Rattle.plan_scene.specs.declared.fault.EditFault.TheVariants.{Duplicate, Unknown, NotSimple, TooManyObstacles, TooManySums, NoMemory}
-use Rattle.plan_top.specs.First.{IsFirst, IsAddedAll, IsCause, IsRefusedAt, IsRefusedFirst}
+use Rattle.plan_reply.specs.First.{IsFirst, IsWhole, IsAddedAll, IsRefusedAt}
+use Rattle.plan_reply.specs.Step.{IsCause}
+use Rattle.plan_top.specs.First.{IsRefusedBy}
 use Rattle.plan_top.specs.declared.status.Refusal.{Refusal}
-use Rattle.plan_top.specs.declared.status.Refusal.TheVariants.{TooLong, Json, Form, Range, RobotNotSimple, Obstacle as ObstacleAt, Later}
-use Rattle.plan_top.proofs.OneFirst.{one_added, one_alone}
+use Rattle.plan_top.specs.declared.status.Refusal.TheVariants.{TooLong, Json, Form, Range, RobotNotSimple, Obstacle as ObstacleAt, TooManyRegions, Later}
+use Rattle.plan_top.proofs.OneFirst.{one_added, one_alone, one_whole}
 
 -- ---- the first wrong pair
 not_simple : (vs : List Vector) (i j : ℕ) → IsFirstWrongPair vs i j → ¬ (IsSimple vs)
@@ -82,22 +85,37 @@ one_refused (o ∷ os) s (suc i) (suc j) f g h k =
     (ap suc e.0, e.1)
 
 -- ---- the first scene
-pub first_or_refused : (given s : Scene) (r : Refusal) → IsFirst given s → ¬ (IsRefusedFirst given r)
-first_or_refused given s (RobotNotSimple i j) (a, is_a, h) k = not_simple (spots_seen given.robot) i j k is_a.is_read.given_simple.simple
-first_or_refused given s (ObstacleAt i f) (a, is_a, h) (b, is_b, k) = all_or_refused given.obstacles a s i f h (subst (IsRefusedAt i f given.obstacles) (one_alone given b a is_b is_a) k)
+mapped_or_large : (s : Scene) → IsMapped (scene_seen s) → ¬ (IsTooLarge (scene_seen s))
+mapped_or_large s m large = let over = large m.slabs m.regions m.is_map in let few = m.few in omega arith
+
+whole_or_wrong : (given s : Scene) (i j : ℕ) → IsWhole given s → ¬ (IsFirstWrongPair (spots_seen given.robot) i j)
+whole_or_wrong given s i j (a, is_a, h) k = not_simple (spots_seen given.robot) i j k is_a.is_read.given_simple.simple
+
+whole_or_refused : (given s : Scene) (i : ℕ) (f : EditFault) → IsWhole given s → ¬ (IsRefusedBy given (ObstacleAt i f))
+whole_or_refused given s i f (a, is_a, h) (b, is_b, k) = all_or_refused given.obstacles a s i f h (subst (IsRefusedAt i f given.obstacles) (one_alone given b a is_b is_a) k)
+
+pub first_or_refused : (given s : Scene) (r : Refusal) → IsFirst given s → ¬ (IsRefusedBy given r)
+first_or_refused given s (RobotNotSimple i j) h k = whole_or_wrong given s i j h.0 k
+first_or_refused given s (ObstacleAt i f) h k = whole_or_refused given s i f h.0 k
+first_or_refused given s TooManyRegions h (t, whole, large) = mapped_or_large t (subst (λ z. IsMapped (scene_seen z)) (one_whole given s t h.0 whole) h.1) large
 first_or_refused given s TooLong h k = k
 first_or_refused given s Json h k = k
 first_or_refused given s (Form p) h k = k
 first_or_refused given s (Range p) h k = k
 first_or_refused given s Later h k = k
 
-pub one_refusal : (given : Scene) (q r : Refusal) → IsRefusedFirst given q → IsRefusedFirst given r → q ≡ r
+pub one_refusal : (given : Scene) (q r : Refusal) → IsRefusedBy given q → IsRefusedBy given r → q ≡ r
 one_refusal given (RobotNotSimple i j) (RobotNotSimple k l) h g = let e = one_pair (spots_seen given.robot) i j k l h g in ap₂ RobotNotSimple e.0 e.1
 one_refusal given (RobotNotSimple i j) (ObstacleAt n f) h (a, is_a, g) = absurd (not_simple (spots_seen given.robot) i j h is_a.is_read.given_simple.simple)
+one_refusal given (RobotNotSimple i j) TooManyRegions h (s, whole, large) = absurd (whole_or_wrong given s i j whole h)
 one_refusal given (ObstacleAt n f) (RobotNotSimple i j) (a, is_a, g) h = absurd (not_simple (spots_seen given.robot) i j h is_a.is_read.given_simple.simple)
 one_refusal given (ObstacleAt n f) (ObstacleAt m g) (a, is_a, h) (b, is_b, k) =
     let e = one_refused given.obstacles a n m f g h (subst (IsRefusedAt m g given.obstacles) (one_alone given b a is_b is_a) k) in
     ap₂ ObstacleAt e.0 e.1
+one_refusal given (ObstacleAt n f) TooManyRegions h (s, whole, large) = absurd (whole_or_refused given s n f whole h)
+one_refusal given TooManyRegions (RobotNotSimple i j) (s, whole, large) h = absurd (whole_or_wrong given s i j whole h)
+one_refusal given TooManyRegions (ObstacleAt n f) (s, whole, large) h = absurd (whole_or_refused given s n f whole h)
+one_refusal given TooManyRegions TooManyRegions h k = refl
 one_refusal given TooLong r h k = absurd h
 one_refusal given Json r h k = absurd h
 one_refusal given (Form p) r h k = absurd h

@@ -1,5 +1,5 @@
 -- The words that call the program: plan N, session N, check, or demo K N, with N from 1 to 16 and K from 1 to 1000.
-use Rattle.std.specs.Prelude.{ℕ, ◌+◌, ◌-◌, ◌*◌, ◌==◌, ◌&&◌, Bool, nat_le, List, [], ◌∷◌, codes}
+use Rattle.std.specs.Prelude.{ℕ, ◌≤◌, ◌+◌, ◌-◌, ◌*◌, ◌==◌, ◌&&◌, Bool, nat_le, List, [], ◌∷◌, codes}
 use Rattle.std.specs.Prelude.{Option, Some, None, option_map, option_and_then, if◌then◌else◌}
 use Rattle.std.specs.Str.{bytes_eq}
 use Rattle.plan_top.specs.declared.command.Command.{Command}
@@ -35,3 +35,14 @@ command_of (verb ∷ n ∷ []) =
 command_of (verb ∷ k ∷ n ∷ []) =
     if bytes_eq verb (codes "demo") then option_and_then (λ k. option_map (Demo k) (number_up_to 16 n)) (number_up_to 1000 k) else None
 command_of _ = None
+
+-- a command that reads its source
+abbrev pub Reads : Option Command → Type 0
+Reads (Some Check) = Unit {0}
+Reads (Some (Plan _)) = Unit {0}
+Reads _ = ⊥
+
+-- a number of workers from 1 to 16, where the command plans
+abbrev pub HasWorkers : Option Command → Type 0
+HasWorkers (Some (Plan n)) = (1 ≤ n) × (n ≤ 16)
+HasWorkers _ = Unit {0}

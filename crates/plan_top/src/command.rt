@@ -1,5 +1,5 @@
 ghost use Rattle.std.specs.Prelude.{◌≡◌, ◌≤◌, [], ◌∷◌, map, option_and_then, string_bytes};
-ghost use Rattle.plan_top.specs.Command.{at_most, command_of, number_up_to, with_digits};
+ghost use Rattle.plan_top.specs.Command.{HasWorkers, at_most, command_of, number_up_to, with_digits};
 
 /// What the words after the program's name ask for.
 #[derive(Clone, Copy, Debug, PartialEq, Eq)]
@@ -22,7 +22,8 @@ const MOST_DEMOS: u16 = 1000;
 
 /// The command of the words after the program's name, where they have one of the four forms.
 pub fn command_of(words: &[String]) -> Option<Command>
-    ensures { result ≡ command_of (map string_bytes words.now) }
+    ensures command { result ≡ command_of (map string_bytes words.now) }
+    ensures workers { HasWorkers result }
 {
     match words {
         [verb] if verb.as_str() == "check" => Some(Command::Check),
@@ -38,11 +39,18 @@ pub fn command_of(words: &[String]) -> Option<Command>
 
 // The command of a verb and a number of workers.
 fn with_workers(verb: &str, workers: &str) -> Option<Command>
-    ensures { result ≡ command_of (verb.now ∷ workers.now ∷ []) }
+    ensures command { result ≡ command_of (verb.now ∷ workers.now ∷ []) }
+    ensures workers { HasWorkers result }
 {
     match verb {
-        "plan" => number_up_to(MOST_WORKERS, workers).map(Command::Plan),
-        "session" => number_up_to(MOST_WORKERS, workers).map(Command::Session),
+        "plan" => {
+            let count = number_up_to(MOST_WORKERS, workers)?;
+            Some(Command::Plan(count))
+        }
+        "session" => {
+            let count = number_up_to(MOST_WORKERS, workers)?;
+            Some(Command::Session(count))
+        }
         _ => None,
     }
 }

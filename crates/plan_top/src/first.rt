@@ -53,7 +53,7 @@ fn adds_of(alloc: Global, obstacles: Vec<Shape>) -> Result<Vec<Edit>, NoMemory>
 {
     let mut adds = Vec::with_capacity(alloc, obstacles.len())?;
     for Shape { id, spots } in obstacles {
-        adds.push(Edit::Add { id, spots })?;
+        adds.push(Edit::Add { id, spots }).map_err(|_| NoMemory)?;
     }
     Ok(adds)
 }

@@ -14,6 +14,9 @@ pub const TOO_LONG: &str = "refused: too long\n";
 /// The line of a command that is not answered yet.
 pub const LATER: &str = "refused: later\n";
 
+/// The last line of `plan`.
+pub const END: &str = "end\n";
+
 /// The line of words that have none of the four forms.
 pub const USAGE: &str = "usage: planner plan N | session N | check | demo K N\n";
 

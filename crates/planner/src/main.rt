@@ -2,6 +2,7 @@
 #![tactic(auto)]
 
 use plan_top::{NoMemory, Status, run, words_of};
+use plan_watch::OpenGate;
 use plan_wire::{StreamSink, StreamSource};
 use std::alloc::Global;
 use std::process::ExitCode;
@@ -12,7 +13,14 @@ fn main(rt: HostRuntime) -> ExitCode {
     let mut source = StreamSource::new(rt.stdin());
     let mut sink = StreamSink::new(rt.stdout());
     let status = match words_of(alloc, arguments(&rt, alloc)) {
-        Ok(words) => run(&rt, alloc, words.as_slice(), &mut source, &mut sink),
+        Ok(words) => run(
+            &rt,
+            alloc,
+            words.as_slice(),
+            &mut source,
+            &mut sink,
+            &OpenGate,
+        ),
         Err(NoMemory) => Status::NoMemory,
     };
     ExitCode::from(status.code())

@@ -1,7 +1,0 @@
--- The obstacles so far were put in.
-use Rattle.std.proofs.Common.{take, map}
-use Rattle.plan_top.specs.First.{IsAddedAll, obstacle_of}
-use Rattle.plan_top.proofs.first.with_obstacles.Given as goal
-
-abbrev pub invariant-loop-at : goal.invariant-loop-at
-invariant-loop-at l = IsAddedAll (take l.at (map obstacle_of l.obstacles)) l.fn.alone l.scene
