@@ -17,3 +17,4 @@ mod Adds
 mod Replies
 mod RightAlike
 mod Planned
+mod OnePlan

@@ -1,11 +1,13 @@
--- The answers of `check` exclude each other.
+-- The answers of `check` exclude each other, and the lines of `plan` are one.
 use Rattle.std.specs.Prelude.{◌≡◌, ℕ, List, Some, All}
 use Rattle.plan_spec.specs.Segment.{HasPoints}
-use Rattle.plan_wire.specs.Documents.{Document, Certificate, path, chain}
+use Rattle.plan_spec.specs.Vector.{IsPoint}
+use Rattle.plan_wire.specs.Documents.{Document, Certificate, path, chain, Task}
 use Rattle.plan_check.specs.declared.fault.CheckFault.{CheckFault}
 use Rattle.plan_check.specs.declared.verdict.Verdict.TheVariants.{Valid, Invalid}
 use Rattle.plan_top.specs.Lines.{line_of}
 use Rattle.plan_top.specs.Outcome.{OnProof, IsJudged, IsAnswer}
+use Rattle.plan_top.specs.Plan.{IsPlanned, OnQueries}
 use Rattle.plan_top.specs.Status.{code_of}
 use Rattle.plan_top.specs.declared.status.Status.{Status}
 
@@ -33,3 +35,11 @@ SameAnswer s t = (code_of s ≡ code_of t) × (line_of s ≡ line_of t)
 -- two lawful answers to bytes that are told have one code and one line
 abbrev pub OneAnswer : Type 0
 OneAnswer = (bytes : List ℕ) (s t : Status) → IsAnswer (Some bytes) s → IsAnswer (Some bytes) t → SameAnswer s t
+
+-- starts and goals of the queries are points
+abbrev pub AskPoints : Task → Type 0
+AskPoints t = OnQueries t (All (λ q. IsPoint q.start × IsPoint q.goal))
+
+-- of one document the planned text is one
+abbrev pub OnePlan : Type 0
+OnePlan = (d : Document) (t u : List ℕ) → AskPoints d.task → IsPlanned d t → IsPlanned d u → t ≡ u

@@ -1,6 +1,6 @@
 //! The laws of answers. Each function does nothing: its contract is the law.
 
-ghost use Rattle.plan_top.specs.Laws.{ValidOrInvalid, OneFirstFault, OneAnswer};
+ghost use Rattle.plan_top.specs.Laws.{ValidOrInvalid, OneFirstFault, OneAnswer, OnePlan};
 
 /// No document is both valid and invalid.
 pub fn valid_or_invalid()
@@ -15,4 +15,9 @@ pub fn one_first_fault()
 /// No bytes have two answers of `check`: two lawful ones have one exit code and one line.
 pub fn one_answer()
     ensures { OneAnswer }
+{}
+
+/// No document of `plan` has two texts: its first scene is one, and the reply to each query is one.
+pub fn one_plan()
+    ensures { OnePlan }
 {}

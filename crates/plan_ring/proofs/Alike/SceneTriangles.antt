@@ -24,9 +24,12 @@ of_spots s p k d within =
 of_parts : (rs ts : List Triangle) (id : ℕ) → All IsTriangle rs → All IsTriangle ts → All IsPair (parts_of rs id ts)
 of_parts rs ts id hr ht = all_flat IsPair (λ t. map (part id t) rs) ts (λ k d within. All-map IsPair (part id (get_or ts k d)) rs (λ j e below. record { piece = ht k d within; robot = hr j e below }))
 
-pub scene_triangles : (s : Scene) → IsScene s → HasTriangles (scene_seen s)
-scene_triangles s h =
+pub polygons_have_triangles : (s : Scene) → IsPolygon s.robot → All (λ o. IsPolygon o.spots) s.obstacles → HasTriangles (scene_seen s)
+polygons_have_triangles s robot polygons =
     let rs = triangles (spots_seen s.robot) in
     all_flat IsPair (λ o. parts_of rs o.id (triangles o.shape)) (map obstacle_seen s.obstacles)
     (All-map (λ o. All IsPair (parts_of rs o.id (triangles o.shape))) obstacle_seen s.obstacles
-    (λ k d within. let o = get_or s.obstacles k d in of_parts rs (triangles (spots_seen o.spots)) o.id (of_spots s.robot h.robot) (of_spots o.spots (h.polygons k d within))))
+    (λ k d within. let o = get_or s.obstacles k d in of_parts rs (triangles (spots_seen o.spots)) o.id (of_spots s.robot robot) (of_spots o.spots (polygons k d within))))
+
+pub scene_triangles : (s : Scene) → IsScene s → HasTriangles (scene_seen s)
+scene_triangles s h = polygons_have_triangles s h.robot h.polygons
