@@ -111,6 +111,27 @@ const NUMBERED: &str = r#"[] 0 "end\n"
 [[2,2,5,5],[8,5,15,2]] 0 "query 1 {\"path\":[[2,2,1],[5,5,1]]}\nquery 2 {\"start\":1}\nend\n"
 [[8,5,15,2],[8,5,15,2]] 0 "query 1 {\"start\":1}\nquery 2 {\"start\":1}\nend\n""#;
 
+/// The text of four queries by the tall bar, two from each side: those from one side have one chain.
+const FROM_BOTH_SIDES: &str =
+    r#"query 1 {"chain":[[0,0,1,8,0,1],[8,0,1,8,19,1],[0,19,1,8,19,1],[0,0,1,0,19,1]]}
+query 2 {"chain":[[0,0,1,8,0,1],[8,0,1,8,19,1],[0,19,1,8,19,1],[0,0,1,0,19,1]]}
+query 3 {"chain":[[11,0,1,19,0,1],[19,0,1,19,19,1],[11,19,1,19,19,1],[11,0,1,11,19,1]]}
+query 4 {"chain":[[11,0,1,19,0,1],[19,0,1,19,19,1],[11,19,1,19,19,1],[11,0,1,11,19,1]]}
+end
+"#;
+
+#[test]
+fn queries_from_one_side_of_a_bar_have_one_chain(rt: HostRuntime) -> Result<(), Fail> {
+    let alloc = rt.alloc();
+    let words = words_of(alloc, "plan|3")?;
+    let queries = "[[2,2,15,2],[3,3,15,2],[15,2,2,2],[15,3,2,2]]";
+    let text = plan_document(alloc, CORNER, TALL_BAR, queries)?;
+    let told = answer_to(&rt, alloc, words.as_slice(), text.as_bytes())?;
+    let expected = written(alloc, 0, FROM_BOTH_SIDES.as_bytes())?;
+    expect(&rt, &told, expected.as_str(), "two queries from each side");
+    Ok(())
+}
+
 /// Documents of `plan` that are refused, by their robot, obstacles and queries: no simple robot, one before an obstacle
 /// that is refused, an id twice, a query of three numbers, one out of range, and none.
 const REFUSED: &str = r#"[[0,0],[1,1],[2,2]] [] [[2,2,5,5]] 2 "refused: robot not simple 0 2\n"

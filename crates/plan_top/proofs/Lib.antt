@@ -18,3 +18,4 @@ mod Replies
 mod RightAlike
 mod Planned
 mod OnePlan
+mod KeptTexts

@@ -1,15 +1,18 @@
 -- The lines of `plan`: one for each query, with its number and its reply, then `end`.
-use Rattle.std.specs.Prelude.{◌≡◌, ◌⊎◌, ℕ, suc, List, [], ◌∷◌, ◌++◌, Option, codes, decimal}
+use Rattle.std.specs.Prelude.{◌≡◌, ◌⊎◌, ℕ, suc, List, [], ◌∷◌, ◌++◌, All, Option, codes, decimal}
 use Rattle.std.specs.List.{AllZip}
 use Rattle.plan_spec.specs.Answers.{Answer, start_touches, goal_touches, by_path, by_chain, IsRight}
 use Rattle.plan_spec.specs.Placement as placement
+use Rattle.plan_spec.specs.Segment.{Segment}
+use Rattle.plan_spec.specs.Vector.{IsPoint}
 use Rattle.plan_wire.specs.Documents.{Document, Query, Task, queries, rounds, proof, path, chain}
 use Rattle.plan_wire.specs.Stream.{Appends, AppendsPart}
 use Rattle.plan_wire.specs.CertificateText.{certificate_text}
 use Rattle.plan_scene.specs.Scene.{Scene, scene_seen}
 use Rattle.plan_reply.specs.First.{IsFirst}
-use Rattle.plan_reply.specs.Stand.{IsReply, IsLowestAnswer}
+use Rattle.plan_reply.specs.Stand.{IsReply, IsLowestAnswer, IsPart}
 use Rattle.plan_top.specs.Lines.{line}
+use Rattle.plan_top.specs.declared.kept.KeptRing.{KeptRing}
 use Rattle.plan_top.specs.declared.status.Status.{Status}
 use Rattle.plan_top.specs.declared.status.Status.TheVariants.{Done, WriteFault, NoMemory}
 
@@ -89,6 +92,32 @@ pub record IsLineOf (first : Scene) (q : Query) (k : ℕ) (text : List ℕ) : Ty
   pub answer : Answer
   pub is_replied : IsReplied first q answer
   pub is_text : text ≡ query_line k answer
+
+-- the text of the reply to the query is put behind the bytes before
+pub record IsPut (first : Scene) (q : Query) (before after : List ℕ) : Type 0 where
+  pub answer : Answer
+  pub is_replied : IsReplied first q answer
+  pub is_text : after ≡ before ++ answer_text answer
+
+-- the start is in this part, the goal in another
+pub record IsClosedPart (first : Scene) (q : Query) (part : ℕ) : Type 0 where
+  pub is_start : IsPart (scene_seen first) q.start part
+  pub other : ℕ
+  pub is_goal : IsPart (scene_seen first) q.goal other
+  pub differ : ¬ (part ≡ other)
+
+-- the text is that of a chain that was the reply to a query whose start is in the part
+pub record IsKept (first : Scene) (kept : KeptRing) : Type 0 where
+  pub query : Query
+  pub is_start : IsPoint query.start
+  pub is_goal : IsPoint query.goal
+  pub in_part : IsPart (scene_seen first) query.start kept.part
+  pub chain : List Segment
+  pub is_replied : IsReplied first query (by_chain chain)
+  pub is_text : kept.text.items ≡ answer_text (by_chain chain)
+
+abbrev pub AreKept : Scene → List KeptRing → Type 0
+AreKept first = All (IsKept first)
 
 -- the lines of the replies to the first queries; to all of them, and the last line
 abbrev pub AreFirstLines : Scene → List Query → List ℕ → Type 0

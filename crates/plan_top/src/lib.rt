@@ -5,6 +5,7 @@ mod answer;
 mod arguments;
 mod command;
 mod first;
+mod kept;
 pub mod laws;
 mod lines;
 mod no_memory;

@@ -129,8 +129,9 @@ fn write_replies<K: Sink>(alloc: Global, stand: &Stand, queries: &[Query], sink:
     ensures count { SinkCount K.rises (K.faults sink.old) (K.faults sink.new) result }
     ensures monotone { K.faults sink.old ≤ K.faults sink.new }
 {
+    let mut kept = Vec::new(alloc);
     for at in 0..queries.len() {
-        let Ok(line) = query_line(alloc, stand, at as u32 + 1, queries[at]) else {
+        let Ok(line) = query_line(alloc, stand, at as u32 + 1, queries[at], &mut kept) else {
             return Status::NoMemory;
         };
         match put_line(sink, &line) {

@@ -1,42 +1,106 @@
 // The lines of replies.
-ghost use Rattle.std.specs.Prelude.{◌≡◌, ◌++◌, IfOk, OnOk, codes, decimal};
+ghost use Rattle.std.specs.Prelude.{◌≡◌, ◌++◌, IfOk, IfSome, OnOk, codes, decimal};
 ghost use Rattle.plan_reply.specs.Seen.{answer_seen};
 ghost use Rattle.plan_wire.specs.Bounds.{QueryFits};
 ghost use Rattle.plan_wire.specs.CertificateText.{certificate_text};
 ghost use Rattle.plan_wire.specs.Seen.{certificate_seen, query_seen};
-ghost use Rattle.plan_top.specs.Plan.{IsLineOf, answer_text, query_line};
+ghost use Rattle.plan_top.specs.Plan.{AreKept, IsClosedPart, IsLineOf, IsPut, answer_text};
 
+use crate::kept::{KeptRing, kept_at};
 use crate::no_memory::NoMemory;
 use plan_cross::{Certificate, Query};
+use plan_reply::laws::same_ring;
 use plan_reply::{Reply, Stand};
 use plan_wire::put_certificate;
 use std::alloc::Global;
 
-/// The line of the reply to a query that has this number.
+/// The line of the reply to a query that has this number. The texts of chains that are kept serve all later queries.
 pub fn query_line(
     alloc: Global,
     stand: &Stand,
     number: u32,
     query: Query,
+    kept: &mut Vec<KeptRing>,
 ) -> Result<Vec<u8>, NoMemory>
-    requires { QueryFits query }
-    ensures { IfOk result (λ line. IsLineOf stand.now (query_seen query) number line.items) }
-{
-    let Ok(reply) = stand.answer(alloc, query) else {
-        return Err(NoMemory);
-    };
-    reply_line(alloc, number, reply)
-}
-
-// The line of a reply.
-fn reply_line(alloc: Global, number: u32, reply: Reply) -> Result<Vec<u8>, NoMemory>
-    ensures { IfOk result (λ line. line.items ≡ query_line number (answer_seen reply)) }
+    requires query { QueryFits query }
+    requires kept { AreKept stand.now kept.old.items }
+    ensures line { IfOk result (λ line. IsLineOf stand.now (query_seen query) number line.items) }
+    ensures kept { OnOk result (AreKept stand.now kept.new.items) }
 {
     let head = format!(in alloc; "query {number} ")?;
     let mut line = Vec::from_slice(alloc, head.as_bytes())?;
-    put_reply(alloc, &mut line, reply)?;
+    put_text(alloc, &mut line, stand, query, kept)?;
     line.push(b'\n').map_err(|_| NoMemory)?;
     Ok(line)
+}
+
+// Appends the text of the reply to a query. Where memory runs out, a part of it may stand there.
+fn put_text(
+    alloc: Global,
+    line: &mut Vec<u8>,
+    stand: &Stand,
+    query: Query,
+    kept: &mut Vec<KeptRing>,
+) -> Result<(), NoMemory>
+    requires query { QueryFits query }
+    requires kept { AreKept stand.now kept.old.items }
+    ensures line { OnOk result (IsPut stand.now (query_seen query) line.old.items line.new.items) }
+    ensures kept { OnOk result (AreKept stand.now kept.new.items) }
+{
+    if let Some(part) = closed_part(stand, query) {
+        return put_ring(alloc, line, stand, query, part, kept);
+    }
+    let Ok(reply) = stand.answer(alloc, query) else {
+        return Err(NoMemory);
+    };
+    put_reply(alloc, line, reply)
+}
+
+// The part of the start, where the goal is in another.
+fn closed_part(stand: &Stand, query: Query) -> Option<u32>
+    requires { QueryFits query }
+    ensures { IfSome result (IsClosedPart stand.now (query_seen query)) }
+{
+    let start = stand.part_of(query.start)?;
+    let goal = stand.part_of(query.goal)?;
+    if start == goal { None } else { Some(start) }
+}
+
+// Appends the text of the reply to a query whose goal is in another part than its start: the text that is kept of the
+// start's part, or a new one, which is kept.
+fn put_ring(
+    alloc: Global,
+    line: &mut Vec<u8>,
+    stand: &Stand,
+    query: Query,
+    part: u32,
+    kept: &mut Vec<KeptRing>,
+) -> Result<(), NoMemory>
+    requires query { QueryFits query }
+    requires part { IsClosedPart stand.now (query_seen query) part }
+    requires kept { AreKept stand.now kept.old.items }
+    ensures line { OnOk result (IsPut stand.now (query_seen query) line.old.items line.new.items) }
+    ensures kept { OnOk result (AreKept stand.now kept.new.items) }
+{
+    if let Some(at) = kept_at(kept.as_slice(), part) {
+        prove!(stand.scene().count() <= 64);
+        same_ring();
+        line.extend_from_slice(kept[at].text.as_slice())?;
+        return Ok(());
+    }
+    let Ok(reply) = stand.answer(alloc, query) else {
+        return Err(NoMemory);
+    };
+    match reply {
+        Reply::Blocked(chain) => {
+            let mut text = Vec::new(alloc);
+            put_answer(&mut text, &Certificate::Blocked(chain))?;
+            line.extend_from_slice(text.as_slice())?;
+            kept.push(KeptRing { part, text }).map_err(|_| NoMemory)?;
+            Ok(())
+        }
+        reply => put_reply(alloc, line, reply),
+    }
 }
 
 // Appends the text of a reply. Where memory runs out, a part of it may stand there.

@@ -10,7 +10,8 @@ loop-at-preserved g c =
     let mid = g.K.Sink.written c.loop-at.sink in
     let after = g.K.Sink.written c.put_line.new.sink in
     record {
-      written = one_more c.args.stand.now c.args.queries.now before mid after c.loop-at.at _ c.in-Ok.line.items c.loop-at-test.true c.loop-at.invariant.written c.in-Ok.ensures (subst (Appends mid after) c.deref.ensures.value c.in-Ok-put_line.ensures.put);
+      kept = c.in-Ok.ensures.kept;
+      written = one_more c.args.stand.now c.args.queries.now before mid after c.loop-at.at _ c.in-Ok.line.items c.loop-at-test.true c.loop-at.invariant.written c.in-Ok.ensures.line (subst (Appends mid after) c.deref.ensures.value c.in-Ok-put_line.ensures.put);
       count = c.in-Ok-put_line.ensures.still ∙ c.loop-at.invariant.count;
     }
 
@@ -19,7 +20,7 @@ returns-in-Err-clause-outcome g c =
     let before = g.K.Sink.written c.args.sink.now in
     let mid = g.K.Sink.written c.loop-at.sink in
     let after = g.K.Sink.written c.put_line.new.sink in
-    cut c.args.stand.now c.args.queries.now before mid after c.loop-at.at _ c.in-Ok.line.items c.loop-at-test.true c.loop-at.invariant.written c.in-Ok.ensures (subst (AppendsPart mid after) c.deref.ensures.value c.in-Err.ensures.part)
+    cut c.args.stand.now c.args.queries.now before mid after c.loop-at.at _ c.in-Ok.line.items c.loop-at-test.true c.loop-at.invariant.written c.in-Ok.ensures.line (subst (AppendsPart mid after) c.deref.ensures.value c.in-Err.ensures.part)
 
 pub returns-in-Ok-put_line-2-clause-outcome : goal.returns-in-Ok-put_line-2-clause-outcome
 returns-in-Ok-put_line-2-clause-outcome g c =
@@ -28,8 +29,8 @@ returns-in-Ok-put_line-2-clause-outcome g c =
     let after = g.K.Sink.written c.put_line-2.new.sink in
     all_written c.args.stand.now c.args.queries.now before mid after c.loop-at.at c.loop-at.auto.at-end c.loop-at-test.false c.loop-at.invariant.written (subst (Appends mid after) c.as_bytes.ensures.value c.in-Ok-put_line-2.ensures.put)
 
-pub returns-in-Err-put_line-clause-outcome : goal.returns-in-Err-put_line-clause-outcome
-returns-in-Err-put_line-clause-outcome g c =
+pub returns-clause-outcome : goal.returns-clause-outcome
+returns-clause-outcome g c =
     let before = g.K.Sink.written c.args.sink.now in
     let mid = g.K.Sink.written c.loop-at.sink in
     let after = g.K.Sink.written c.put_line-2.new.sink in
