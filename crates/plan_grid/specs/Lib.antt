@@ -2,6 +2,7 @@ pub mod Bounds
 pub mod Fraction
 pub mod FractionOrder
 pub mod Frame
+pub mod OddParts
 pub mod Order
 pub mod PointOrder
 pub mod Segment

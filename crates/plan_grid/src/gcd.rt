@@ -2,19 +2,35 @@ ghost use Rattle.std.specs.Prelude.{◌≡◌, ℕ, pos, ◌*ℤ◌, ◌≤ℤ�
 ghost use Rattle.std.specs.Int.{IsGcd, ◌∣◌};
 ghost use Rattle.plan_grid.specs.Bounds.{IsDivisor};
 ghost use Rattle.plan_grid.specs.Fraction.{IsLcm};
+ghost use Rattle.plan_grid.specs.OddParts.{IsOddPart};
 
-/// The greatest common divisor, by Euclid's algorithm.
+/// The greatest common divisor, by differences of odd numbers.
 pub fn gcd(a: u64, b: u64) -> u64
     ensures { IsGcd a b result }
 {
-    let mut x = a;
-    let mut y = b;
-    while y != 0 {
-        let rest = x % y;
-        x = y;
-        y = rest;
+    if a == 0 {
+        return b;
     }
-    x
+    if b == 0 {
+        return a;
+    }
+    let twos = a.trailing_zeros().min(b.trailing_zeros());
+    let mut x = odd_part(a);
+    let mut y = odd_part(b);
+    while x != y {
+        let rest = odd_part(x.abs_diff(y));
+        y = x.min(y);
+        x = rest;
+    }
+    x << twos
+}
+
+// What is left of the number without its factors of two.
+fn odd_part(n: u64) -> u64
+    requires { 0 < n }
+    ensures { IsOddPart n result }
+{
+    n >> n.trailing_zeros()
 }
 
 /// The greatest number that divides all three, where `w` is positive.

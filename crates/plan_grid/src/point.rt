@@ -108,7 +108,11 @@ impl Point {
         ensures in_range { IsInRange result }
     {
         let l = common_denominator(x, y);
-        Point::lowest(x.over(l).get() as i64, y.over(l).get() as i64, l as i64)
+        Point {
+            x: x.over(l).get() as i64,
+            y: y.over(l).get() as i64,
+            w: l as i64,
+        }
     }
 
     // The point at (`x / w`, `y / w`), in lowest terms.

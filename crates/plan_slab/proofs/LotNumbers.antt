@@ -8,7 +8,7 @@ use Rattle.plan_spec.specs.Regions.{IsLot, cell, wall}
 use Rattle.plan_grid.specs.Fraction.{Fraction}
 use Rattle.plan_slab.specs.declared.lot.Lot.{Lot}
 use Rattle.plan_slab.specs.declared.lot.Lot.TheVariants.{Cell, Wall}
-use Rattle.plan_slab.specs.LotKeys.{key, IsFirstFrom, AreBetween}
+use Rattle.plan_slab.specs.LotKeys.{key, AreBelow, IsFirstFrom, AreBetween}
 use Rattle.plan_slab.specs.LotOrder.{index, Earlier}
 use Rattle.plan_slab.specs.Seen.{lot_seen, strand_seen}
 use Rattle.plan_grid.specs.Fraction.{point_at}
@@ -64,6 +64,24 @@ first_from lots least n bound p = record {
   within = omega (arith, bound, length-map lots lot_seen);
   before = λ k d less. let e = get_or-map lot_seen lots k (unseen d) d (omega (arith, less, bound)) in omega (arith, ap key e, ltb-true _ _ (p.0 k (unseen d) (omega arith) less));
   from = λ k d more within. let here : k < length lots = omega (arith, within, length-map lots lot_seen) in let e = get_or-map lot_seen lots k (unseen d) d here in omega (arith, ap key e, ltb-false _ _ (p.1 k (unseen d) more here));
+}
+
+-- lots up to that number have no greater keys
+pub below_last : (lots : List Lot) (least n : ℕ) → IsNonDecreasingBy (λ lot. key (lot_seen lot)) lots → n < length lots → key (lot_seen (get_or lots n (Cell 0 0))) < least → AreBelow (map lot_seen lots) least (n + 1)
+below_last lots least n rising within less = record {
+  within = omega (arith, within, length-map lots lot_seen);
+  before = λ k d below. let e = get_or-map lot_seen lots k (Cell 0 0) d (omega (arith, below, within)) in omega (arith, ap key e, rising k n (Cell 0 0) (omega (arith, below)) within, less);
+}
+
+-- and those from it on have no lesser ones
+pub first_at : (lots : List Lot) (least n : ℕ) → IsNonDecreasingBy (λ lot. key (lot_seen lot)) lots → AreBelow (map lot_seen lots) least n → (n < length lots → least ≤ key (lot_seen (get_or lots n (Cell 0 0)))) → IsFirstFrom (map lot_seen lots) least n
+first_at lots least n rising below there = record {
+  within = below.within;
+  before = below.before;
+  from = λ k d more within.
+      let here : k < length lots = omega (arith, within, length-map lots lot_seen) in
+      let e = get_or-map lot_seen lots k (Cell 0 0) d here in
+      omega (arith, ap key e, rising n k (Cell 0 0) more here, there (omega (arith, more, here)));
 }
 
 -- lots from that number on, one after another, as long as their keys are below a limit

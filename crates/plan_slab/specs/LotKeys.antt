@@ -7,7 +7,12 @@ use Rattle.plan_slab.specs.LotOrder.{rank, index}
 abbrev pub key : Lot → ℕ
 key lot = rank lot * 131072 + index lot
 
--- lots below that number have lesser keys, and the others have not
+-- lots below that number have lesser keys
+pub record AreBelow (found : List Lot) (least n : ℕ) : Type 0 where
+  pub within : n ≤ length found
+  pub before : (k : ℕ) (d : Lot) → k < n → key (get_or found k d) < least
+
+-- and the others have not
 pub record IsFirstFrom (found : List Lot) (least n : ℕ) : Type 0 where
   pub within : n ≤ length found
   pub before : (k : ℕ) (d : Lot) → k < n → key (get_or found k d) < least

@@ -1,10 +1,11 @@
--- The greatest common divisor of the pair at hand is that of the pair handed in.
-use Rattle.std.proofs.Common.{ℕ}
+-- Both are odd, and their greatest common divisor, with the twos of both, is that of the pair handed in.
+use Rattle.std.proofs.Common.{◌≡◌, ℕ, ◌+◌, ◌%◌}
 use Rattle.std.specs.Int.{IsGcd}
+use Rattle.plan_grid.proofs.OddParts.{doubled}
 use Rattle.plan_grid.proofs.gcd.gcd.Given as goal
 
-abbrev pub invariant-loop-y : goal.invariant-loop-y
-invariant-loop-y l = (g : ℕ) → IsGcd l.x l.y g → IsGcd l.fn.a l.fn.b g
+abbrev pub invariant-loop-x : goal.invariant-loop-x
+invariant-loop-x l = (l.x % 2 ≡ 1) × (l.y % 2 ≡ 1) × ((g : ℕ) → IsGcd l.x l.y g → IsGcd l.fn.a l.fn.b (doubled l.twos g))
 
-abbrev pub decreases-loop-y : goal.decreases-loop-y
-decreases-loop-y l = l.y
+abbrev pub decreases-loop-x : goal.decreases-loop-x
+decreases-loop-x l = l.x + l.y
