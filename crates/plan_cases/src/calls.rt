@@ -1,13 +1,14 @@
 use plan_top::run;
-use plan_watch::OpenGate;
+use plan_watch::{OpenGate, Watcher};
 use plan_wire::{Sink, Source, SteadySink, SteadySource};
 use std::alloc::Global;
 use std::process::Abort;
+use std::sync::Wait;
 use std::test::Fail;
 use std::thread::Threads;
 
 /// Calls the planner, and gives its code and what it wrote, as `0 "valid\n"`.
-pub fn answer_to<R: Threads + Sync>(
+pub fn answer_to<R: Threads + Wait + Sync>(
     rt: &R,
     alloc: Global,
     words: &[String],
@@ -18,7 +19,7 @@ pub fn answer_to<R: Threads + Sync>(
 }
 
 /// The same over a source.
-pub fn answer_from<R: Threads + Sync, S: Source>(
+pub fn answer_from<R: Threads + Wait + Sync, S: Source>(
     rt: &R,
     alloc: Global,
     words: &[String],
@@ -30,14 +31,15 @@ pub fn answer_from<R: Threads + Sync, S: Source>(
 }
 
 /// Calls the planner, and gives its code.
-pub fn code_of<R: Threads + Sync, S: Source, K: Sink>(
+pub fn code_of<R: Threads + Wait + Sync, S: Source, K: Sink>(
     rt: &R,
     alloc: Global,
     words: &[String],
     source: &mut S,
     sink: &mut K,
 ) -> u8 {
-    run(rt, alloc, words, source, sink, &OpenGate).code()
+    let mut watchers: Vec<Box<dyn Watcher>> = Vec::new(alloc);
+    run(rt, alloc, words, source, sink, &OpenGate, &mut watchers).code()
 }
 
 /// A code and what was written, as `0 "valid\n"`.

@@ -3,11 +3,12 @@ use crate::documents::{CORNER, document};
 use crate::scenes::{BAR, GAP, RING, TALL_BAR};
 use std::alloc::Global;
 use std::process::Abort;
+use std::sync::Wait;
 use std::test::Fail;
 use std::thread::Threads;
 
 // Rows of a query, a chain, and what `check` tells of them with the corner robot and these obstacles.
-fn answers<R: Threads + Sync + Abort>(
+fn answers<R: Threads + Wait + Sync + Abort>(
     rt: &R,
     alloc: Global,
     obstacles: &str,

@@ -45,7 +45,7 @@ check 3 100 1000 4 "val"
 plan|3 100 100 1 4 ""
 plan|3 100 1 1000 2 "refused: form $.queries\n"
 session|3 100 100 1 4 ""
-session|3 100 1 1000 2 "refused: later\n"
+session|3 100 1 1000 2 "refused: form $.rounds\n"
 chek 100 100 1 4 ""
 chek 6 100 1000 4 "usage:""#;
 

@@ -9,6 +9,8 @@ mod chains;
 #[cfg(test)]
 mod checks;
 #[cfg(test)]
+mod demos;
+#[cfg(test)]
 mod documents;
 #[cfg(test)]
 mod faults;

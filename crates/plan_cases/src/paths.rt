@@ -3,11 +3,12 @@ use crate::documents::{CORNER, SPIKE, document};
 use crate::scenes::BAR;
 use std::alloc::Global;
 use std::process::Abort;
+use std::sync::Wait;
 use std::test::Fail;
 use std::thread::Threads;
 
 /// Rows of a query, a path, and what `check` tells of them with this robot and these obstacles.
-pub fn answers<R: Threads + Sync + Abort>(
+pub fn answers<R: Threads + Wait + Sync + Abort>(
     rt: &R,
     alloc: Global,
     robot: &str,

@@ -3,11 +3,12 @@ use crate::documents::{CORNER, SPIKE, plan_document};
 use plan_wire::{MemorySink, MemorySource};
 use std::alloc::Global;
 use std::process::Abort;
+use std::sync::Wait;
 use std::test::Fail;
 use std::thread::Threads;
 
 // Rows of a query and its reply, with the corner robot and these obstacles: each alone in a document.
-fn answers<R: Threads + Sync + Abort>(
+fn answers<R: Threads + Wait + Sync + Abort>(
     rt: &R,
     alloc: Global,
     obstacles: &str,

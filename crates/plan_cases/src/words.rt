@@ -8,7 +8,7 @@ const WORDS: &str = r#"check=0 "valid\n"
 plan|3=2 "refused: form $.queries\n"
 plan|1=2 "refused: form $.queries\n"
 plan|16=2 "refused: form $.queries\n"
-session|9=2 "refused: later\n"
+session|9=2 "refused: form $.rounds\n"
 demo|1000|16=2 "refused: later\n"
 demo|1|1=2 "refused: later\n"
 =1 "usage: planner plan N | session N | check | demo K N\n"
@@ -50,13 +50,13 @@ fn words_of_the_four_forms_are_answered_and_all_others_are_usage(
 }
 
 #[test]
-fn plan_and_check_alone_read_their_source_and_read_it_to_the_end(
+fn plan_session_and_check_alone_read_their_source_and_read_it_to_the_end(
     rt: HostRuntime,
 ) -> Result<(), Fail> {
     let alloc = rt.alloc();
     for (words, left) in [
         ("plan|3", 0),
-        ("session|3", 7),
+        ("session|3", 0),
         ("demo|1|1", 7),
         ("plan|0", 7),
         ("check", 0),

@@ -22,14 +22,14 @@ pub map_next : {X Y : Type 0} (f : X → Y) (xs : List X) (x : X) → map f (xs 
 map_next f [] x = refl
 map_next f (y ∷ xs) x = ap (λ l. f y ∷ l) (map_next f xs x)
 
-module _ {E Q A : Type 0} (version_of : E → ℕ) (answer_of : E → Q → A) where
+module _ {E Q A : Type 0} (version_of : E → ℕ) (gives : E → Q → A → Type 0) where
   -- what was said at a place of a list is said there of a longer one
-  pub carried : (list longer : List E) (place : ℕ) (q : Q) (s : ℕ × A) → IsPrefix list longer → Says version_of answer_of list place q s → Says version_of answer_of longer place q s
+  pub carried : (list longer : List E) (place : ℕ) (q : Q) (s : ℕ × A) → IsPrefix list longer → Says version_of gives list place q s → Says version_of gives longer place q s
   carried list longer place q s p h = record { entry = h.entry; there = prefix_get list longer place h.entry p h.there; version_is = h.version_is; answer_is = h.answer_is }
 
   pub one_more : (list longer : List E) (from : ℕ) (questions : List Q) (said : List (ℕ × A)) (q : Q) (s : ℕ × A)
-      → IsPrefix list longer → from ≤ length longer - 1 → Answers version_of answer_of list from questions said → Says version_of answer_of longer (length longer - 1) q s
-      → Answers version_of answer_of longer from (questions ++ q ∷ []) (said ++ s ∷ [])
+      → IsPrefix list longer → from ≤ length longer - 1 → Answers version_of gives list from questions said → Says version_of gives longer (length longer - 1) q s
+      → Answers version_of gives longer from (questions ++ q ∷ []) (said ++ s ∷ [])
   one_more list longer from [] [] q s grown le h new = (length longer - 1, le, new, tt)
   one_more list longer from [] (t ∷ said) q s grown le h new = absurd h
   one_more list longer from (p ∷ questions) [] q s grown le h new = absurd h

@@ -172,40 +172,40 @@ module _ {J E C Q F A : Type 0} where
       let same : w.reader ≡ v.reader = cc is in
       (subst (λ r. GoesOn v.reader r) (sym same) (goes_self v.reader), equal_readers vs ws (cc is))
 
-module _ {E Q A : Type 0} (version_of : E → ℕ) (answer_of : E → Q → A) where
-  pub lower : (list : List E) (from higher : ℕ) (questions : List Q) (said : List (ℕ × A)) → from ≤ higher → Answers version_of answer_of list higher questions said → Answers version_of answer_of list from questions said
+module _ {E Q A : Type 0} (version_of : E → ℕ) (gives : E → Q → A → Type 0) where
+  pub lower : (list : List E) (from higher : ℕ) (questions : List Q) (said : List (ℕ × A)) → from ≤ higher → Answers version_of gives list higher questions said → Answers version_of gives list from questions said
   lower list from higher [] [] le h = tt
   lower list from higher [] (s ∷ said) le h = absurd h
   lower list from higher (q ∷ questions) [] le h = absurd h
   lower list from higher (q ∷ questions) (s ∷ said) le h = (h.0, omega (arith, le, h.1), h.2, h.3)
 
   -- and carried to a longer list
-  pub longer : (list more : List E) (from : ℕ) (questions : List Q) (said : List (ℕ × A)) → IsPrefix list more → Answers version_of answer_of list from questions said → Answers version_of answer_of more from questions said
+  pub longer : (list more : List E) (from : ℕ) (questions : List Q) (said : List (ℕ × A)) → IsPrefix list more → Answers version_of gives list from questions said → Answers version_of gives more from questions said
   longer list more from [] [] p h = tt
   longer list more from [] (s ∷ said) p h = absurd h
   longer list more from (q ∷ questions) [] p h = absurd h
-  longer list more from (q ∷ questions) (s ∷ said) p h = (h.0, h.1, carried version_of answer_of list more h.0 q s p h.2, longer list more h.0 questions said p h.3)
+  longer list more from (q ∷ questions) (s ∷ said) p h = (h.0, h.1, carried version_of gives list more h.0 q s p h.2, longer list more h.0 questions said p h.3)
 
   -- what was said for a beginning of a list is said for the list
   has_said : {J C F X Y : Type 0} (list more : List E) (from higher : ℕ) (questions : List Q) (said : Option (Result (Vec (Said J E C Q F A) X) Y))
-      → from ≤ higher → IsPrefix list more → HasSaid version_of answer_of list higher questions said → HasSaid version_of answer_of more from questions said
+      → from ≤ higher → IsPrefix list more → HasSaid version_of gives list higher questions said → HasSaid version_of gives more from questions said
   has_said list more from higher questions None le p h = tt
   has_said list more from higher questions (Some (Err e)) le p h = tt
   has_said list more from higher questions (Some (Ok v)) le p h =
       longer list more from questions (map (λ s. (s.version, s.answer)) v.items) p (lower list from higher questions (map (λ s. (s.version, s.answer)) v.items) le h)
 
   settled_said : {J C F : Type 0} (list : List E) (from : ℕ) (questions : List Q) (ran after : Work J E C Q F A) (higher : ℕ)
-      → from ≤ higher → HasSaid version_of answer_of ran.reader.list higher questions ran.said
-      → (after.said ≡ None) ⊎ ((after.said ≡ ran.said) × IsPrefix ran.reader.list list) → HasSaid version_of answer_of list from questions after.said
+      → from ≤ higher → HasSaid version_of gives ran.reader.list higher questions ran.said
+      → (after.said ≡ None) ⊎ ((after.said ≡ ran.said) × IsPrefix ran.reader.list list) → HasSaid version_of gives list from questions after.said
   settled_said list from questions ran after higher le h settles = ⊎_elim
-      (λ gone. subst (λ s. HasSaid version_of answer_of list from questions s) (sym gone) tt)
-      (λ kept. subst (λ s. HasSaid version_of answer_of list from questions s) (sym kept.0) (has_said ran.reader.list list from higher questions ran.said le kept.1 h))
+      (λ gone. subst (λ s. HasSaid version_of gives list from questions s) (sym gone) tt)
+      (λ kept. subst (λ s. HasSaid version_of gives list from questions s) (sym kept.0) (has_said ran.reader.list list from higher questions ran.said le kept.1 h))
       settles
 
   -- readers that were told of a list, ran, and settled with a longer one, have said what holds of that one
   pub all_said : {J C F Z : Type 0} (before list : List E) (told ran settled : List (Work J E C Q F A)) (lanes : List (Vec Q Z))
-      → All (λ w. length before ≤ length w.reader.list) told → Worked version_of answer_of told ran lanes → AllSettle list ran settled
-      → AllSaid version_of answer_of list (length before - 1) settled lanes
+      → All (λ w. length before ≤ length w.reader.list) told → Worked version_of gives told ran lanes → AllSettle list ran settled
+      → AllSaid version_of gives list (length before - 1) settled lanes
   all_said before list told ran settled lanes knows worked settle = record {
     each = (λ k d e lt within.
         let at_ran : k < length ran = omega (arith, lt, settle.count) in
@@ -217,35 +217,35 @@ module _ {E Q A : Type 0} (version_of : E → ℕ) (answer_of : E → Q → A) w
 
   -- what is taken from a lane that nobody took from before
   pub taken_said : {J C F Z : Type 0} (list : List E) (from : ℕ) (works now : List (Work J E C Q F A)) (lanes : List (Vec Q Z)) (k : ℕ) (e : Vec Q Z) (said : _)
-      → AllSaid version_of answer_of list from works lanes → map (λ w. w.reader) now ≡ map (λ w. w.reader) works → ((d : Work J E C Q F A) → get_or now k d ≡ get_or works k d)
+      → AllSaid version_of gives list from works lanes → map (λ w. w.reader) now ≡ map (λ w. w.reader) works → ((d : Work J E C Q F A) → get_or now k d ≡ get_or works k d)
       → ((d : Work J E C Q F A) → k < length now → said ≡ (get_or now k d).said) → (length now ≤ k → said ≡ None) → k < length lanes
-      → HasSaid version_of answer_of list from (get_or lanes k e).items said
-  taken_said list from works [] lanes k e said all readers same some none within = subst (λ s. HasSaid version_of answer_of list from (get_or lanes k e).items s) (sym (none (omega arith))) tt
+      → HasSaid version_of gives list from (get_or lanes k e).items said
+  taken_said list from works [] lanes k e said all readers same some none within = subst (λ s. HasSaid version_of gives list from (get_or lanes k e).items s) (sym (none (omega arith))) tt
   taken_said list from works (w ∷ now) lanes k e said all readers same some none within =
       let long : length (w ∷ now) ≡ length works = sym (map_length (λ v. v.reader) (w ∷ now)) ∙ (ap length readers ∙ map_length (λ v. v.reader) works) in
       ⊎_elim
-      (λ lt. subst (λ s. HasSaid version_of answer_of list from (get_or lanes k e).items s) (sym (some w lt ∙ ap (λ v. v.said) (same w))) (all.each k w e (omega (arith, lt, long)) within))
-      (λ le. subst (λ s. HasSaid version_of answer_of list from (get_or lanes k e).items s) (sym (none le)) tt)
+      (λ lt. subst (λ s. HasSaid version_of gives list from (get_or lanes k e).items s) (sym (some w lt ∙ ap (λ v. v.said) (same w))) (all.each k w e (omega (arith, lt, long)) within))
+      (λ le. subst (λ s. HasSaid version_of gives list from (get_or lanes k e).items s) (sym (none le)) tt)
       (below k (length (w ∷ now)))
 
   -- the last entry's answers will do from each place on
   pub last_or : {J C F X Y : Type 0} (list : List E) (questions : List Q) (said : Option (Result (Vec (Said J E C Q F A) X) Y)) (r : Result (Vec (Said J E C Q F A) X) Y)
-      → IfOk r (λ v. Answers version_of answer_of list (length list - 1) questions (map (λ s. (s.version, s.answer)) v.items))
-      → IfOk r (λ v. (from : ℕ) → from < length list → HasSaid version_of answer_of list from questions said → Answers version_of answer_of list from questions (map (λ s. (s.version, s.answer)) v.items))
+      → IfOk r (λ v. Answers version_of gives list (length list - 1) questions (map (λ s. (s.version, s.answer)) v.items))
+      → IfOk r (λ v. (from : ℕ) → from < length list → HasSaid version_of gives list from questions said → Answers version_of gives list from questions (map (λ s. (s.version, s.answer)) v.items))
   last_or list questions said (Ok v) h = λ from lt has. lower list from (length list - 1) questions (map (λ s. (s.version, s.answer)) v.items) (omega (arith, lt)) h
   last_or list questions said (Err e) h = tt
 
   -- one lane's answers, once lists that are equal are told apart no more
   pub one_lane : {J C F X Y : Type 0} (list told : List E) (from : ℕ) (questions asked got : List Q) (said : Option (Result (Vec (Said J E C Q F A) X) Y)) (answers : List (ℕ × A))
-      → told ≡ list → asked ≡ questions → got ≡ questions → from < length list → HasSaid version_of answer_of list from got said
-      → ((from : ℕ) → from < length told → HasSaid version_of answer_of told from asked said → Answers version_of answer_of told from asked answers)
-      → Answers version_of answer_of list from questions answers
-  one_lane list told from questions asked got said answers told_is asked_is got_is lt has gives =
-      let kept : HasSaid version_of answer_of told from asked said = subst (λ (l : List E). HasSaid version_of answer_of l from asked said) (sym told_is) (subst (λ (q : List Q). HasSaid version_of answer_of list from q said) (got_is ∙ sym asked_is) has) in
-      let given = gives from (subst (λ (l : List E). from < length l) (sym told_is) lt) kept in
-      subst (λ (q : List Q). Answers version_of answer_of list from q answers) asked_is (subst (λ (l : List E). Answers version_of answer_of l from asked answers) told_is given)
+      → told ≡ list → asked ≡ questions → got ≡ questions → from < length list → HasSaid version_of gives list from got said
+      → ((from : ℕ) → from < length told → HasSaid version_of gives told from asked said → Answers version_of gives told from asked answers)
+      → Answers version_of gives list from questions answers
+  one_lane list told from questions asked got said answers told_is asked_is got_is lt has told_of =
+      let kept : HasSaid version_of gives told from asked said = subst (λ (l : List E). HasSaid version_of gives l from asked said) (sym told_is) (subst (λ (q : List Q). HasSaid version_of gives list from q said) (got_is ∙ sym asked_is) has) in
+      let given = told_of from (subst (λ (l : List E). from < length l) (sym told_is) lt) kept in
+      subst (λ (q : List Q). Answers version_of gives list from q answers) asked_is (subst (λ (l : List E). Answers version_of gives l from asked answers) told_is given)
 
-  pub worked_goes : {J C F Z : Type 0} (vs ws : List (Work J E C Q F A)) (lanes : List (Vec Q Z)) → Worked version_of answer_of vs ws lanes → AllGoOn vs ws
+  pub worked_goes : {J C F Z : Type 0} (vs ws : List (Work J E C Q F A)) (lanes : List (Vec Q Z)) → Worked version_of gives vs ws lanes → AllGoOn vs ws
   worked_goes vs ws lanes h = each_goes vs ws h.count (λ k d lt. (h.each k d lt).reader)
 
 last_there : {X : Type 0} (xs : List X) → 0 < length xs → (x : X) × (slice_get xs (length xs - 1) ≡ Some x)
@@ -256,10 +256,10 @@ last_there (x ∷ y ∷ xs) lt =
     let at : length (x ∷ y ∷ xs) - 1 ≡ suc (length (y ∷ xs) - 1) = omega arith in
     (rest.0, rw at rest.1)
 
-module _ {E C F : Type 0} (version_of : E → ℕ) (outcome_of : E → C → Outcome E F) where
+module _ {E C F : Type 0} (version_of : E → ℕ) (makes : E → C → Outcome E F → Type 0) where
   -- a list with entries began with some
   pub first_there : (before after : List E) (changes : List C) (ends : List (Result ℕ F))
-      → AreEdits version_of outcome_of before after changes ends → 0 < length after → (x : E) × (slice_get before (length before - 1) ≡ Some x)
+      → AreEdits version_of makes before after changes ends → 0 < length after → (x : E) × (slice_get before (length before - 1) ≡ Some x)
   first_there before after [] [] h lt = last_there before (subst (λ l. 0 < length l) h lt)
   first_there before after [] (e ∷ ends) h lt = absurd h
   first_there before after (c ∷ changes) [] h lt = absurd h

@@ -10,13 +10,15 @@ abbrev pub end_seen : {J E C Q F A : Type 0} → EditEnd J E C Q F A → Result 
 end_seen (Accepted version) = Ok version
 end_seen (Refused why) = Err why
 
-module _ {E C F : Type 0} (version_of : E → ℕ) (outcome_of : E → C → Outcome E F) where
+module _ {E C F : Type 0} (version_of : E → ℕ) (makes : E → C → Outcome E F → Type 0) where
   -- one change of the last entry
   pub record IsEdit (before after : List E) (change : C) (end : Result ℕ F) : Type 0 where
     pub entry : E
     pub entry_is : slice_get before (length before - 1) ≡ Some entry
-    pub end_is : end ≡ end_of version_of outcome_of (outcome_of entry change)
-    pub list_is : after ≡ before ++ taken_before version_of outcome_of (outcome_of entry change) []
+    pub outcome : Outcome E F
+    pub is_made : makes entry change outcome
+    pub end_is : end ≡ end_of version_of outcome
+    pub list_is : after ≡ before ++ taken_before outcome []
 
   -- changes one after another
   abbrev pub AreEdits : List E → List E → List C → List (Result ℕ F) → Type 0

@@ -1,13 +1,13 @@
 -- What a lane says.
 use Rattle.std.specs.Prelude.{◌≡◌, ℕ, ◌≤◌, List, [], ◌∷◌, Some, slice_get}
 
-module _ {E Q A : Type 0} (version_of : E → ℕ) (answer_of : E → Q → A) where
+module _ {E Q A : Type 0} (version_of : E → ℕ) (gives : E → Q → A → Type 0) where
   -- the entry at this place of the list has this version, and gives this answer
   pub record Says (list : List E) (place : ℕ) (question : Q) (said : ℕ × A) : Type 0 where
     pub entry : E
     pub there : slice_get list place ≡ Some entry
     pub version_is : said.0 ≡ version_of entry
-    pub answer_is : said.1 ≡ answer_of entry question
+    pub answer_is : gives entry question said.1
 
   -- one answer for each question, in order, each of an entry of the list. Their places never fall, and the first is at least this one
   abbrev pub Answers : List E → ℕ → List Q → List (ℕ × A) → Type 0

@@ -1,6 +1,5 @@
 -- The job of the tests and of the rounds by hand: entries and answers are numbers.
 use Rattle.std.specs.Prelude.{◌≡◌, ℕ, ◌+◌, ◌==◌, Bool, true, false, if◌then◌else◌}
-use Rattle.std.proofs.Common.{sym}
 use Rattle.plan_crew.specs.declared.job.Outcome.{Outcome}
 use Rattle.plan_crew.specs.declared.job.Outcome.TheVariants.{Taken, Refused}
 
@@ -11,10 +10,10 @@ either b entry = if b then Refused entry else Taken (entry + 1)
 abbrev pub counted : ℕ → ℕ → Outcome ℕ ℕ
 counted entry change = either (change == 0) entry
 
-by_test : (b : Bool) (entry next : ℕ) → either b entry ≡ Taken next → next ≡ entry + 1
+by_test : (b : Bool) (entry next : ℕ) → Taken next ≡ either b entry → next ≡ entry + 1
 by_test true entry next is = absurd cc
-by_test false entry next is = sym (cc is)
+by_test false entry next is = cc is
 
 -- what is taken is the next number
-pub counted_rises : (entry change next : ℕ) → counted entry change ≡ Taken next → next ≡ entry + 1
+pub counted_rises : (entry change next : ℕ) → Taken next ≡ counted entry change → next ≡ entry + 1
 counted_rises entry change next is = by_test (change == 0) entry next is

@@ -23,10 +23,10 @@ module _ {J E C Q F A : Type 0} where
     pub count : length after ≡ length before
     pub each : (k : ℕ) (d : Work J E C Q F A) → k < length before → Settles list (slice_index_or before k d) (slice_index_or after k d)
 
-module _ {J E C Q F A : Type 0} (version_of : E → ℕ) (answer_of : E → Q → A) where
+module _ {J E C Q F A : Type 0} (version_of : E → ℕ) (gives : E → Q → A → Type 0) where
   -- what was said, if anything was, answers these questions for entries of this list, from this place on
   abbrev pub HasSaid : {X Y : Type 0} → List E → ℕ → List Q → Option (Result (Vec (Said J E C Q F A) X) Y) → Type 0
-  HasSaid list from questions said = IfSome said (λ r. IfOk r (λ v. Answers version_of answer_of list from questions (map (λ s. (s.version, s.answer)) v.items)))
+  HasSaid list from questions said = IfSome said (λ r. IfOk r (λ v. Answers version_of gives list from questions (map (λ s. (s.version, s.answer)) v.items)))
 
   -- the lane with this number has run
   pub record Ran {Z : Type 0} (before after : Work J E C Q F A) (lanes : List (Vec Q Z)) (number : ℕ) : Type 0 where

@@ -26,7 +26,7 @@ pub(crate) fn collect<J: Job, R: Threads + Sync>(
     ensures same { editor.new ≡ editor.old }
     ensures readers { map (λ w. w.reader) works.new ≡ map (λ w. w.reader) works.old }
     ensures published { OnOk result (0 < length editor.old.list) }
-    ensures said { IfOk result (λ v. (from : ℕ) → from < length editor.old.list → AllSaid J.version_of (J.answer_of job.now) editor.old.list from works.old lanes.now → AllZip (Answers J.version_of (J.answer_of job.now) editor.old.list from) (map (λ v. v.items) lanes.now) (map (λ v. map (λ s. (s.version, s.answer)) v.items) v.items)) }
+    ensures said { IfOk result (λ v. (from : ℕ) → from < length editor.old.list → AllSaid J.version_of (J.gives job.now) editor.old.list from works.old lanes.now → AllZip (Answers J.version_of (J.gives job.now) editor.old.list from) (map (λ v. v.items) lanes.now) (map (λ v. map (λ s. (s.version, s.answer)) v.items) v.items)) }
 {
     let last = editor.told()?;
     let mut all = Vec::new(alloc);
@@ -64,7 +64,7 @@ fn or_last<J: Job, R: Threads + Sync>(
     questions: &[J::Question],
 ) -> Result<Vec<Said<J>>, NoMemory>
     requires asks { All (λ q. J.asks job.now q) questions.now }
-    ensures said { IfOk result (λ v. (from : ℕ) → from < length (told_list last.now) → HasSaid J.version_of (J.answer_of job.now) (told_list last.now) from questions.now said → Answers J.version_of (J.answer_of job.now) (told_list last.now) from questions.now (map (λ s. (s.version, s.answer)) v.items)) }
+    ensures said { IfOk result (λ v. (from : ℕ) → from < length (told_list last.now) → HasSaid J.version_of (J.gives job.now) (told_list last.now) from questions.now said → Answers J.version_of (J.gives job.now) (told_list last.now) from questions.now (map (λ s. (s.version, s.answer)) v.items)) }
 {
     match said {
         Some(said) => said,
@@ -81,7 +81,7 @@ fn answer_last<J: Job, R: Threads + Sync>(
     questions: &[J::Question],
 ) -> Result<Vec<Said<J>>, NoMemory>
     requires asks { All (λ q. J.asks job.now q) questions.now }
-    ensures said { IfOk result (λ v. Answers J.version_of (J.answer_of job.now) (told_list last.now) (length (told_list last.now) - 1) questions.now (map (λ s. (s.version, s.answer)) v.items)) }
+    ensures said { IfOk result (λ v. Answers J.version_of (J.gives job.now) (told_list last.now) (length (told_list last.now) - 1) questions.now (map (λ s. (s.version, s.answer)) v.items)) }
 {
     let mut said = Vec::new(alloc);
     let mut next = 0;

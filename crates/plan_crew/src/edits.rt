@@ -31,7 +31,7 @@ pub(crate) fn edit_all<J: Job, G: Gate, R: Threads + Wait + Sync>(
     ensures tied { IsTied editor.new }
     ensures shelf { editor.new.shelf ≡ editor.old.shelf }
     ensures list { IsPrefix editor.old.list editor.new.list }
-    ensures ends { IfOk result (λ v. AreEdits J.version_of (J.outcome_of job.now) editor.old.list editor.new.list edits.now (map (λ e. end_seen e) v.items)) }
+    ensures ends { IfOk result (λ v. AreEdits J.version_of (J.makes job.now) editor.old.list editor.new.list edits.now (map (λ e. end_seen e) v.items)) }
 {
     let mut ends = Vec::new(alloc);
     let mut next = 0;
@@ -60,7 +60,7 @@ fn edit_one<J: Job, R: Threads + Wait + Sync>(
     ensures tied { IsTied editor.new }
     ensures shelf { editor.new.shelf ≡ editor.old.shelf }
     ensures list { IsPrefix editor.old.list editor.new.list }
-    ensures end { IfOk result (λ e. IsEdit J.version_of (J.outcome_of job.now) editor.old.list editor.new.list change.now (end_seen e)) }
+    ensures end { IfOk result (λ e. IsEdit J.version_of (J.makes job.now) editor.old.list editor.new.list change.now (end_seen e)) }
 {
     let last = editor.told()?;
     match job.apply(rt, alloc, &*last.entry, change)? {

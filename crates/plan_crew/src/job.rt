@@ -1,4 +1,5 @@
 ghost use Rattle.std.specs.Prelude.{◌≡◌, ℕ, ◌+◌, ◌<◌, IfOk};
+ghost use Rattle.std.specs.Thread.{IsSync};
 ghost use Rattle.plan_crew.specs.declared.job.Outcome.{Outcome};
 ghost use Rattle.plan_crew.specs.declared.job.Outcome.TheVariants.{Taken};
 
@@ -16,7 +17,7 @@ pub enum Outcome<E: Drop, F: Drop> {
 /// What a crew works at: entries, the changes that lead from one to the next, and the questions that
 /// an entry answers. Threads share the job.
 ///
-/// It means what each change makes of an entry, and what each entry answers. Every call may find no
+/// It means what a change may make of an entry, and what an entry may answer. Every call may find no
 /// memory.
 pub trait Job: Sync {
     type Entry: Drop + Send + Sync;
@@ -37,10 +38,11 @@ pub trait Job: Sync {
 
     ghost asks: { Self → Self.Question → Type 0 };
 
-    // What a change makes of an entry, and what an entry answers.
-    ghost outcome_of: { Self → Self.Entry → Self.Change → Outcome Self.Entry Self.Refused };
+    // Whether a change makes this of an entry, and whether an entry gives this answer. There may be
+    // more than one.
+    ghost makes: { Self → Self.Entry → Self.Change → Outcome Self.Entry Self.Refused → Type 0 };
 
-    ghost answer_of: { Self → Self.Entry → Self.Question → Self.Answer };
+    ghost gives: { Self → Self.Entry → Self.Question → Self.Answer → Type 0 };
 
     /// The entry's version.
     fn version(&self, entry: &Self::Entry) -> u32
@@ -54,9 +56,10 @@ pub trait Job: Sync {
         entry: &Self::Entry,
         change: &Self::Change,
     ) -> Result<Outcome<Self::Entry, Self::Refused>, NoMemory>
+        requires sync { IsSync R.row }
         requires takes { takes self.now change.now }
         requires room { version_of entry.now < 2048 }
-        ensures { IfOk result (λ o. o ≡ outcome_of self.now entry.now change.now) };
+        ensures { IfOk result (makes self.now entry.now change.now) };
 
     /// The entry's answer.
     fn answer<R: Threads + Sync>(
@@ -67,7 +70,7 @@ pub trait Job: Sync {
         question: &Self::Question,
     ) -> Result<Self::Answer, NoMemory>
         requires { asks self.now question.now }
-        ensures { IfOk result (λ a. a ≡ answer_of self.now entry.now question.now) };
+        ensures { IfOk result (gives self.now entry.now question.now) };
 
-    ghost rises: { (job : Self) (entry : Self.Entry) (change : Self.Change) (next : Self.Entry) → outcome_of job entry change ≡ Taken next → version_of next ≡ version_of entry + 1 };
+    ghost rises: { (job : Self) (entry : Self.Entry) (change : Self.Change) (next : Self.Entry) → makes job entry change (Taken next) → version_of next ≡ version_of entry + 1 };
 }

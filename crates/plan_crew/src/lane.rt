@@ -33,7 +33,7 @@ pub fn answer_lane<J: Job, G: Gate, R: Threads + Sync>(
     ensures shelf { reader.new.shelf ≡ reader.old.shelf }
     ensures list { IsPrefix reader.old.list reader.new.list }
     // the version and the answer of one entry of the list, for each; places never fall, and the first is not before the last of the list before
-    ensures said { IfOk result (λ v. Answers J.version_of (J.answer_of job.now) reader.new.list (length reader.old.list - 1) questions.now (map (λ s. (s.version, s.answer)) v.items)) }
+    ensures said { IfOk result (λ v. Answers J.version_of (J.gives job.now) reader.new.list (length reader.old.list - 1) questions.now (map (λ s. (s.version, s.answer)) v.items)) }
 {
     let mut said = Vec::new(alloc);
     let mut next = 0;
@@ -58,7 +58,7 @@ fn ask<J: Job, R: Threads + Sync>(
     requires { J.asks job.now question.now }
     ensures shelf { reader.new.shelf ≡ reader.old.shelf }
     ensures list { IsPrefix reader.old.list reader.new.list }
-    ensures said { IfOk result (λ s. Says J.version_of (J.answer_of job.now) reader.new.list (length reader.new.list - 1) question.now (s.version, s.answer)) }
+    ensures said { IfOk result (λ s. Says J.version_of (J.gives job.now) reader.new.list (length reader.new.list - 1) question.now (s.version, s.answer)) }
 {
     let entry = reader.look();
     Ok(Said {

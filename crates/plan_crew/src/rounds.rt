@@ -56,7 +56,7 @@ pub fn round<J: Job, G: Gate, R: Threads + Wait + Sync>(
     ensures list { IsPrefix editor.old.list editor.new.list }
     // as many readers as before, each of the shelf, and each list begins with the list before
     ensures readers { AllZip (λ r s. (s.shelf ≡ r.shelf) × IsPrefix r.list s.list) readers.old.items readers.new.items }
-    ensures round { IfOk result (λ e. IsRound J.version_of (J.outcome_of job.now) (J.answer_of job.now) editor.old.list editor.new.list edits.now (map (λ e. end_seen e) e.edits.items) (map (λ v. v.items) lanes.now) (map (λ v. map (λ s. (s.version, s.answer)) v.items) e.lanes.items)) }
+    ensures round { IfOk result (λ e. IsRound J.version_of (J.makes job.now) (J.gives job.now) editor.old.list editor.new.list edits.now (map (λ e. end_seen e) e.edits.items) (map (λ v. v.items) lanes.now) (map (λ v. map (λ s. (s.version, s.answer)) v.items) e.lanes.items)) }
 {
     let mut works = Vec::with_capacity(alloc, readers.len())?;
     move_in(readers, &mut works);
@@ -98,7 +98,7 @@ fn in_works<J: Job, G: Gate, R: Threads + Wait + Sync>(
     ensures shelf { editor.new.shelf ≡ editor.old.shelf }
     ensures list { IsPrefix editor.old.list editor.new.list }
     ensures readers { AllGoOn works.old works.new }
-    ensures round { IfOk result (λ e. IsRound J.version_of (J.outcome_of job.now) (J.answer_of job.now) editor.old.list editor.new.list edits.now (map (λ e. end_seen e) e.edits.items) (map (λ v. v.items) lanes.now) (map (λ v. map (λ s. (s.version, s.answer)) v.items) e.lanes.items)) }
+    ensures round { IfOk result (λ e. IsRound J.version_of (J.makes job.now) (J.gives job.now) editor.old.list editor.new.list edits.now (map (λ e. end_seen e) e.edits.items) (map (λ v. v.items) lanes.now) (map (λ v. map (λ s. (s.version, s.answer)) v.items) e.lanes.items)) }
 {
     inform_all(editor, works)?;
     let edits = beside(rt, alloc, job, gate, number, editor, works, edits, lanes)?;
@@ -128,15 +128,15 @@ fn beside<J: Job, G: Gate, R: Threads + Wait + Sync>(
     ensures tied { IsTied editor.new }
     ensures shelf { editor.new.shelf ≡ editor.old.shelf }
     ensures list { IsPrefix editor.old.list editor.new.list }
-    ensures ends { IfOk result (λ v. AreEdits J.version_of (J.outcome_of job.now) editor.old.list editor.new.list edits.now (map (λ e. end_seen e) v.items)) }
-    ensures lanes { Worked J.version_of (J.answer_of job.now) works.old works.new lanes.now }
+    ensures ends { IfOk result (λ v. AreEdits J.version_of (J.makes job.now) editor.old.list editor.new.list edits.now (map (λ e. end_seen e) v.items)) }
+    ensures lanes { Worked J.version_of (J.gives job.now) works.old works.new lanes.now }
 {
     let mut ends = Err(NoMemory);
     let mut answer = ||
         requires sync { IsSync R.row }
         requires few { (length lanes.now ≤ MOST_LANES) × All (λ v. length v.items ≤ MOST_QUESTIONS) lanes.now }
         requires asks { All (λ v. All (λ q. J.asks job.now q) v.items) lanes.now }
-        ensures { Worked J.version_of (J.answer_of job.entry.now) works.entry.now works.exit.now lanes.entry.now }
+        ensures { Worked J.version_of (J.gives job.entry.now) works.entry.now works.exit.now lanes.entry.now }
     { run_all(rt, alloc, job, gate, number, works, lanes) };
     let mut edit = ||
         requires sync { IsSync R.row }
@@ -147,7 +147,7 @@ fn beside<J: Job, G: Gate, R: Threads + Wait + Sync>(
         ensures tied { IsTied editor.exit.now }
         ensures shelf { editor.exit.now.shelf ≡ editor.entry.now.shelf }
         ensures list { IsPrefix editor.entry.now.list editor.exit.now.list }
-        ensures ends { IfOk ends.exit (λ v. AreEdits J.version_of (J.outcome_of job.entry.now) editor.entry.now.list editor.exit.now.list edits.entry.now (map (λ e. end_seen e) v.items)) }
+        ensures ends { IfOk ends.exit (λ v. AreEdits J.version_of (J.makes job.entry.now) editor.entry.now.list editor.exit.now.list edits.entry.now (map (λ e. end_seen e) v.items)) }
     {
         ends = edit_all(rt, alloc, job, gate, number, editor, edits);
     };

@@ -23,7 +23,7 @@ pub(crate) fn run_all<J: Job, G: Gate, R: Threads + Sync>(
 )
     requires few { (length lanes.now ≤ MOST_LANES) × All (λ v. length v.items ≤ MOST_QUESTIONS) lanes.now }
     requires asks { All (λ v. All (λ q. J.asks job.now q) v.items) lanes.now }
-    ensures { Worked J.version_of (J.answer_of job.now) works.old works.new lanes.now }
+    ensures { Worked J.version_of (J.gives job.now) works.old works.new lanes.now }
 {
     let threads = works.len().max(1);
     thread::for_each_mut(
@@ -33,7 +33,7 @@ pub(crate) fn run_all<J: Job, G: Gate, R: Threads + Sync>(
         &|k: usize, work: &mut Work<J>|
             requires few { (length lanes.now ≤ MOST_LANES) × All (λ v. length v.items ≤ MOST_QUESTIONS) lanes.now }
             requires asks { All (λ v. All (λ q. J.asks job.now q) v.items) lanes.now }
-            ensures { Ran J.version_of (J.answer_of job.entry.now) work.entry.now work.exit.now lanes.entry.now k }
+            ensures { Ran J.version_of (J.gives job.entry.now) work.entry.now work.exit.now lanes.entry.now k }
         { run(rt, alloc, job, gate, round, work, lanes, k) },
     );
 }
@@ -51,7 +51,7 @@ fn run<J: Job, G: Gate, R: Threads + Sync>(
 )
     requires few { (length lanes.now ≤ MOST_LANES) × All (λ v. length v.items ≤ MOST_QUESTIONS) lanes.now }
     requires asks { All (λ v. All (λ q. J.asks job.now q) v.items) lanes.now }
-    ensures { Ran J.version_of (J.answer_of job.now) work.old work.new lanes.now number }
+    ensures { Ran J.version_of (J.gives job.now) work.old work.new lanes.now number }
 {
     if number < lanes.len() {
         let lane = number as u32 + 1;

@@ -16,7 +16,7 @@ use std::thread::Threads;
 struct Numbers;
 
 impl Job for Numbers {
-    ghost use Rattle.std.specs.Prelude.{◌+◌};
+    ghost use Rattle.std.specs.Prelude.{◌≡◌, ◌+◌};
     ghost use Rattle.plan_crew.specs.Numbers.{counted, counted_rises};
 
     type Entry = u32;
@@ -35,9 +35,9 @@ impl Job for Numbers {
 
     ghost asks = { λ job q. Unit {0} };
 
-    ghost outcome_of = { λ job e c. counted e c };
+    ghost makes = { λ job e c o. o ≡ counted e c };
 
-    ghost answer_of = { λ job e q. e + q };
+    ghost gives = { λ job e q a. a ≡ e + q };
 
     ghost rises = { λ job e c next is. counted_rises e c next is };
 

@@ -1,10 +1,11 @@
 -- What walks join is joined both ways, and by way of a third.
-use Rattle.std.proofs.Common.{inl, inr, ℕ, List, [], ◌∷◌, refl, sym, subst}
+use Rattle.std.proofs.Common.{◌≡◌, ◌<◌, inl, inr, ℕ, List, [], ◌∷◌, get_or, refl, sym, subst}
 use Rattle.std.proofs.lemmas.Bool.{and_parts, and_from, or_cases, or_left, or_right}
 use Rattle.plan_spec.specs.Neighbours.{beside, AreNeighbours}
 use Rattle.plan_spec.specs.Regions.{Lot, region_at}
 use Rattle.plan_spec.specs.Slabs.{Slabs}
 use Rattle.plan_spec.specs.Walks.{Leads, AreJoined, IsComponent}
+use Rattle.plan_map.specs.Labels.{AreLabels}
 use Rattle.plan_map.proofs.Graph.Joined.{leads_of, one_step_on}
 
 neighbours_turned : (σ : Slabs) (found : List Lot) (m n : ℕ) → AreNeighbours σ found m n → AreNeighbours σ found n m
@@ -34,3 +35,7 @@ module _ (σ : Slabs) (found : List Lot) where
   -- the component of one is that of the other
   pub same_component : (m n : ℕ) (ns : List ℕ) → AreJoined Next m n → IsComponent Next m ns → IsComponent Next n ns
   same_component m n ns j c = record { rising = c.rising; members = λ k. (λ h. joined_on n m k (joined_back m n j) ((c.members k).0 h), λ h. (c.members k).1 (joined_on m n k j h)) }
+
+  -- of one label, so joined
+  pub same_label : (count : ℕ) (labels : List ℕ) → AreLabels Next count labels → (m n : ℕ) → m < count → n < count → get_or labels m 0 ≡ get_or labels n 0 → AreJoined Next m n
+  same_label count labels l m n hm hn e = joined_on m (get_or labels m 0) n (joined_back (get_or labels m 0) m (l.joined m hm)) (subst (λ k. AreJoined Next k n) (sym e) (l.joined n hn))

@@ -17,6 +17,8 @@ use Rattle.plan_ring.proofs.Alike.AnswerGiven.{alike_maps}
 use Rattle.plan_ring.proofs.Alike.AnswerWalks.{one_region, same_next}
 use Rattle.plan_ring.proofs.Alike.SceneTriangles.{scene_triangles}
 use Rattle.plan_ring.proofs.Alike.Slabs.{AlikeSlabs}
+use Rattle.plan_ring.specs.Grown.{IsRingOf}
+use Rattle.plan_reply.specs.Rings.{IsRing}
 use Rattle.plan_reply.specs.Stand.{IsStand, IsPart, IsReply, IsLowestAnswer}
 use Rattle.plan_reply.proofs.Joined.{joined_on, joined_back, same_component}
 use Rattle.plan_reply.proofs.Longer.{ends_points}
@@ -71,6 +73,29 @@ module _ (scene : Scene) (is_scene : IsScene scene) where
         moved maps.slabs z part hz (part_clear z part hz p)
         (subst (λ regions. IsPartBy p.slabs regions z part) maps.regions (record { region = p.region; is_in = p.is_in; within = p.within; joined = p.joined; least = p.least }))
 
+  -- the ring of the component of a region serves each start of the part with the region's number and each goal of another
+  pub ring_serves : {σ : Slabs} {found : List Lot} → IsMapOf (scene_seen scene) σ found → (chain : List Segment) → IsLowestAnswer (by_chain chain) → (part : ℕ) → IsRingOf σ found part chain → IsRing scene part chain
+  ring_serves {σ} {found} m chain lowest part k = record {
+    serves = λ s g hs hg closed.
+        let other = closed.other in
+        let b = part_by m s part hs closed.is_start in
+        let c = part_by m g other hg closed.is_goal in
+        chain_reply scene is_scene m s g hs hg chain (ends_points chain lowest) (part_clear s part hs closed.is_start) (part_clear g other hg closed.is_goal) (record {
+          from = b.region;
+          to = c.region;
+          starts = b.is_in;
+          ends = c.is_in;
+          apart = λ j.
+              let low = b.least other c.within (joined_on σ found other c.region b.region c.joined (joined_back σ found b.region c.region j)) in
+              let high = c.least part b.within (joined_on σ found part b.region c.region b.joined j) in
+              closed.differ (omega (arith, low, high));
+          component = k.component;
+          is_component = same_component σ found part b.region k.component b.joined k.is_component;
+          is_ring = k.is_ring;
+        });
+    lowest = lowest;
+  }
+
   pub one_ring : (s g t h : Vector) → IsPoint s → IsPoint g → IsPoint t → IsPoint h → (chain : List Segment) → IsLowestAnswer (by_chain chain) → IsReply (scene_seen scene) s g (by_chain chain)
       → (part other : ℕ) → IsPart (scene_seen scene) s part → IsPart (scene_seen scene) t part → IsPart (scene_seen scene) h other → ¬ (part ≡ other) → IsReply (scene_seen scene) t h (by_chain chain)
   one_ring s g t h hs hg ht hh chain lowest reply part other ps pt ph differ =
@@ -80,20 +105,6 @@ module _ (scene : Scene) (is_scene : IsScene scene) where
       let m = given.is_map in
       let k = given.canonical.2 in
       let a = part_by m s part hs ps in
-      let b = part_by m t part ht pt in
-      let c = part_by m h other hh ph in
       let from : AreJoined (AreNeighbours σ found) part k.from = subst (AreJoined (AreNeighbours σ found) part) (k.starts.no_other a.region a.is_in.is_region a.is_in.holds) a.joined in
-      let both : AreJoined (AreNeighbours σ found) k.from b.region = joined_on σ found k.from part b.region (joined_back σ found part k.from from) b.joined in
-      chain_reply scene is_scene m t h ht hh chain (ends_points chain lowest) (part_clear t part ht pt) (part_clear h other hh ph) (record {
-        from = b.region;
-        to = c.region;
-        starts = b.is_in;
-        ends = c.is_in;
-        apart = λ j.
-            let low = b.least other c.within (joined_on σ found other c.region b.region c.joined (joined_back σ found b.region c.region j)) in
-            let high = c.least part b.within (joined_on σ found part b.region c.region b.joined j) in
-            differ (omega (arith, low, high));
-        component = k.component;
-        is_component = same_component σ found k.from b.region k.component both k.is_component;
-        is_ring = k.is_ring;
-      })
+      let ring : IsRingOf σ found part chain = record { component = k.component; is_component = same_component σ found k.from part k.component (joined_back σ found part k.from from) k.is_component; is_ring = k.is_ring } in
+      (ring_serves m chain lowest part ring).serves t h ht hh (record { is_start = pt; other = other; is_goal = ph; differ = differ })

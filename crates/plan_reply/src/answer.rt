@@ -1,9 +1,10 @@
 //! The reply to a query.
 
-ghost use Rattle.std.specs.Prelude.{IfOk, MatchOption};
+ghost use Rattle.std.specs.Prelude.{IfOk, IfSome, MatchOption};
 ghost use Rattle.plan_spec.specs.Placement.{IsClear, Touches};
 ghost use Rattle.plan_grid.specs.Spot.{spot_seen, IsWithin};
 ghost use Rattle.plan_scene.specs.Scene.{scene_seen};
+ghost use Rattle.plan_reply.specs.Rings.{IsClosedPart};
 ghost use Rattle.plan_reply.specs.Seen.{answer_seen};
 ghost use Rattle.plan_reply.specs.Stand.{IsReply, IsLowestAnswer, IsPart};
 
@@ -46,6 +47,17 @@ impl Stand {
         Some(self.labels[region.number as usize])
     }
 
+    /// The part of the start, where the goal is in another. Coordinates of at most 2046 in absolute value.
+    pub fn closed_part(&self, query: Query) -> Option<u32>
+        requires start { IsWithin MOST_COORDINATE query.start }
+        requires goal { IsWithin MOST_COORDINATE query.goal }
+        ensures { IfSome result (IsClosedPart (scene_seen self.now) (spot_seen query.start) (spot_seen query.goal)) }
+    {
+        let start = self.part_of(query.start)?;
+        let goal = self.part_of(query.goal)?;
+        if start == goal { None } else { Some(start) }
+    }
+
     // The path between start and goal, which are clear, or the chain that blocks.
     fn way(&self, alloc: Global, query: Query) -> Result<Reply, NoMemory>
         requires start { IsWithin MOST_COORDINATE query.start }
@@ -62,9 +74,12 @@ impl Stand {
         let Some(to) = self.map.locate(query.goal) else {
             unreachable!()
         };
+        if self.labels[from.number as usize] != self.labels[to.number as usize] {
+            return Ok(Reply::Blocked(ring(alloc, &self.map, from)?));
+        }
         match self.map.walk(alloc, from, to)? {
             Some(walk) => Ok(Reply::Path(path_along(alloc, &self.map, query, &walk)?)),
-            None => Ok(Reply::Blocked(ring(alloc, &self.map, from)?)),
+            None => unreachable!(),
         }
     }
 }

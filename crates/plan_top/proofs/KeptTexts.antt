@@ -7,11 +7,12 @@ use Rattle.plan_cross.specs.declared.certificate.Query as cross
 use Rattle.plan_wire.specs.Seen.{query_seen}
 use Rattle.plan_scene.specs.Scene.{Scene, scene_seen, IsScene}
 use Rattle.plan_reply.specs.Laws.{SameRing}
+use Rattle.plan_reply.specs.Rings.{IsClosedPart}
 use Rattle.plan_reply.specs.Stand.{IsPart}
-use Rattle.plan_top.specs.Plan.{IsReplied, IsPut, IsClosedPart, IsKept, answer_text}
+use Rattle.plan_top.specs.Plan.{IsReplied, IsPut, IsKept, answer_text}
 use Rattle.plan_top.specs.declared.kept.KeptRing.{KeptRing}
 
-module _ (first : Scene) (query : cross.Query) (part : ℕ) (closed : IsClosedPart first (query_seen query) part) where
+module _ (first : Scene) (query : cross.Query) (part : ℕ) (closed : IsClosedPart (scene_seen first) (query_seen query).start (query_seen query).goal part) where
   -- the reply for which it is kept is the reply to this query too
   replied_again : SameRing → IsScene first → (kept : KeptRing) → (k : IsKept first kept) → kept.part ≡ part → IsReplied first (query_seen query) (by_chain k.chain)
   replied_again law scene kept k same = record {

@@ -13,7 +13,7 @@ use Rattle.plan_top.specs.Lines.{line, line_of}
 use Rattle.plan_top.specs.Outcome.{IsJudged, IsRefusedScene, IsAnswer, IsAnswerTo}
 use Rattle.plan_top.specs.Status.{code_of}
 use Rattle.plan_top.specs.declared.status.Refusal.{Refusal}
-use Rattle.plan_top.specs.declared.status.Refusal.TheVariants.{TooLong, Json, Form, Range, RobotNotSimple, Obstacle, TooManyRegions, Later}
+use Rattle.plan_top.specs.declared.status.Refusal.TheVariants.{TooLong, Json, Form, Range, RobotNotSimple, Obstacle, TooManyRegions}
 use Rattle.plan_top.specs.declared.status.Status.{Status}
 use Rattle.plan_top.specs.declared.status.Status.TheVariants.{Done, Usage, Refused, ReadFault, WriteFault, NoMemory, Invalid}
 use Rattle.plan_top.proofs.Exclusion.{valid_or_invalid, one_first_fault}
@@ -51,7 +51,6 @@ module _ (bytes : List ℕ) (r : reading.Refusal) (e : document_of bytes Check �
   told (Refused (RobotNotSimple i j)) h = absurd (no_document _ h)
   told (Refused (Obstacle at f)) h = absurd (no_document _ h)
   told (Refused TooManyRegions) h = absurd (no_document _ h)
-  told (Refused Later) h = absurd (no_document _ h)
   told Usage h = absurd h
   told ReadFault h = absurd h
   told WriteFault h = absurd h
@@ -75,7 +74,6 @@ module _ (bytes : List ℕ) (d : Document) (e : document_of bytes Check ≡ Ok d
   answers (Refused (RobotNotSimple i j)) h = is_read _ h
   answers (Refused (Obstacle at f)) h = is_read _ h
   answers (Refused TooManyRegions) h = is_read _ h
-  answers (Refused Later) h = is_read _ h
   answers Usage h = h
   answers ReadFault h = h
   answers WriteFault h = h

@@ -25,8 +25,8 @@ pub record OfPolygons (s : Scene) : Type 0 where
   pub robot : IsPolygon s.robot
   pub obstacles : All (λ (o : Obstacle). IsPolygon o.spots) s.obstacles
 
-one_added : (s t : Scene) (o : Obstacle) → IsAdded s o.id o.spots t → OfPolygons s → OfPolygons t
-one_added s t o (_, _, _, kept, read, e) h = subst OfPolygons (sym e) (record {
+pub with_added : (s t : Scene) (o : Obstacle) → IsAdded s o.id o.spots t → OfPolygons s → OfPolygons t
+with_added s t o (_, _, _, kept, read, e) h = subst OfPolygons (sym e) (record {
   robot = h.robot;
   obstacles = All-append P (filter (is_lesser o.id) s.obstacles) (obstacle o.id kept ∷ filter (is_greater o.id) s.obstacles) (All-filter (is_lesser o.id) P s.obstacles h.obstacles)
       (All-cons P (obstacle o.id kept) (filter (is_greater o.id) s.obstacles) read.polygon (All-filter (is_greater o.id) P s.obstacles h.obstacles));
@@ -37,9 +37,9 @@ one_added s t o (_, _, _, kept, read, e) h = subst OfPolygons (sym e) (record {
 
 all_added : (os : List Obstacle) (s t : Scene) → IsAddedAll os s t → OfPolygons s → OfPolygons t
 all_added [] s t e h = subst OfPolygons (sym e) h
-all_added (o ∷ os) s t (next, one, rest) h = all_added os next t rest (one_added s next o one h)
+all_added (o ∷ os) s t (next, one, rest) h = all_added os next t rest (with_added s next o one h)
 
-of_polygons : (given first : Scene) → IsWhole given first → OfPolygons first
+pub of_polygons : (given first : Scene) → IsWhole given first → OfPolygons first
 of_polygons given first (alone, is_alone, all) =
     all_added given.obstacles alone first all (subst OfPolygons (sym is_alone.is_scene) (record { robot = is_alone.is_read.polygon; obstacles = All-nil (λ (o : Obstacle). IsPolygon o.spots) }))
 
@@ -47,7 +47,7 @@ of_polygons given first (alone, is_alone, all) =
 point : (p : Vector) → IsInRange p → IsLowestPoint p
 point p r = (let w = r.weight in omega (arith, ints), r.lowest)
 
-lowest : (a : Answer) → IsLowestAnswer a → IsInLowestTerms a
+pub lowest : (a : Answer) → IsLowestAnswer a → IsInLowestTerms a
 lowest (start_touches n) h = tt
 lowest (goal_touches n) h = tt
 lowest (by_path path) h = λ k d within. point (get_or path k d) (h k d within)

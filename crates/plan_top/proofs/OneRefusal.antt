@@ -14,7 +14,7 @@ use Rattle.plan_reply.specs.First.{IsFirst, IsWhole, IsAddedAll, IsRefusedAt}
 use Rattle.plan_reply.specs.Step.{IsCause}
 use Rattle.plan_top.specs.First.{IsRefusedBy}
 use Rattle.plan_top.specs.declared.status.Refusal.{Refusal}
-use Rattle.plan_top.specs.declared.status.Refusal.TheVariants.{TooLong, Json, Form, Range, RobotNotSimple, Obstacle as ObstacleAt, TooManyRegions, Later}
+use Rattle.plan_top.specs.declared.status.Refusal.TheVariants.{TooLong, Json, Form, Range, RobotNotSimple, Obstacle as ObstacleAt, TooManyRegions}
 use Rattle.plan_top.proofs.OneFirst.{one_added, one_alone, one_whole}
 
 -- ---- the first wrong pair
@@ -39,7 +39,7 @@ one_pair vs i j k l h g = by (cases_lt i k) (cases_lt k i)
 
 -- ---- one obstacle
 module _ (s : Scene) (id : ℕ) (spots : List Spot) where
-  added_or_not : (t : Scene) (f : EditFault) → IsAdded s id spots t → IsNotAdded s id spots f → ¬ (IsCause f)
+  pub added_or_not : (t : Scene) (f : EditFault) → IsAdded s id spots t → IsNotAdded s id spots f → ¬ (IsCause f)
   added_or_not t (Duplicate n) a h c = a.0 h.1
   added_or_not t (NotSimple i j) a h c = not_simple (spots_seen spots) i j h.1 a.4.given_simple.simple
   added_or_not t TooManyObstacles a h c = omega (arith, a.1, h.2)
@@ -85,7 +85,7 @@ one_refused (o ∷ os) s (suc i) (suc j) f g h k =
     (ap suc e.0, e.1)
 
 -- ---- the first scene
-mapped_or_large : (s : Scene) → IsMapped (scene_seen s) → ¬ (IsTooLarge (scene_seen s))
+pub mapped_or_large : (s : Scene) → IsMapped (scene_seen s) → ¬ (IsTooLarge (scene_seen s))
 mapped_or_large s m large = let over = large m.slabs m.regions m.is_map in let few = m.few in omega arith
 
 whole_or_wrong : (given s : Scene) (i j : ℕ) → IsWhole given s → ¬ (IsFirstWrongPair (spots_seen given.robot) i j)
@@ -102,7 +102,6 @@ first_or_refused given s TooLong h k = k
 first_or_refused given s Json h k = k
 first_or_refused given s (Form p) h k = k
 first_or_refused given s (Range p) h k = k
-first_or_refused given s Later h k = k
 
 pub one_refusal : (given : Scene) (q r : Refusal) → IsRefusedBy given q → IsRefusedBy given r → q ≡ r
 one_refusal given (RobotNotSimple i j) (RobotNotSimple k l) h g = let e = one_pair (spots_seen given.robot) i j k l h g in ap₂ RobotNotSimple e.0 e.1
@@ -120,9 +119,7 @@ one_refusal given TooLong r h k = absurd h
 one_refusal given Json r h k = absurd h
 one_refusal given (Form p) r h k = absurd h
 one_refusal given (Range p) r h k = absurd h
-one_refusal given Later r h k = absurd h
 one_refusal given q TooLong h k = absurd k
 one_refusal given q Json h k = absurd k
 one_refusal given q (Form p) h k = absurd k
 one_refusal given q (Range p) h k = absurd k
-one_refusal given q Later h k = absurd k

@@ -10,7 +10,7 @@ use Rattle.plan_scene.specs.Scene.{Scene, scene_seen}
 use Rattle.plan_top.specs.Outcome.{Told, IsRefusedScene, IsRefusal, IsRefusalOf, IsPlanOf, IsBegunOf, IsReadToEnd, OnDocument, PlanOutcome, AnswerOutcome, LineOutcome}
 use Rattle.plan_top.specs.Plan.{IsReplied, IsAnswered, OnFirst, OnQueries, IsBegun, IsPlanned, IsReady, AreFirstLines, AreAllLines, RepliesOutcome}
 use Rattle.plan_top.specs.declared.status.Refusal.{Refusal}
-use Rattle.plan_top.specs.declared.status.Refusal.TheVariants.{TooLong, Json, Form, Range, RobotNotSimple, Obstacle, TooManyRegions, Later}
+use Rattle.plan_top.specs.declared.status.Refusal.TheVariants.{TooLong, Json, Form, Range, RobotNotSimple, Obstacle, TooManyRegions}
 use Rattle.plan_top.specs.declared.status.Status.{Status}
 use Rattle.plan_top.specs.declared.status.Status.TheVariants.{Done, Usage, Refused, ReadFault, WriteFault, NoMemory, Invalid}
 use Rattle.plan_top.proofs.Firsts.{touches_alike, touched_alike}
@@ -61,7 +61,7 @@ module _ (d : Document) (first : Scene) (qs : List Query) (ready : IsReady d fir
   }
 
 -- ---- of bytes
-on_ok : {A E : Type 0} (r : Result A E) (P Q : A → Type 0) → ((a : A) → P a → Q a) → IsOkAnd r P → IsOkAnd r Q
+pub on_ok : {A E : Type 0} (r : Result A E) (P Q : A → Type 0) → ((a : A) → P a → Q a) → IsOkAnd r P → IsOkAnd r Q
 on_ok (Ok a) P Q f h = f a h
 on_ok (Err e) P Q f h = h
 
@@ -112,4 +112,3 @@ refused_document want bytes d TooLong e h = absurd h.is_refused
 refused_document want bytes d Json e h = absurd h.is_refused
 refused_document want bytes d (Form p) e h = absurd h.is_refused
 refused_document want bytes d (Range p) e h = absurd h.is_refused
-refused_document want bytes d Later e h = absurd h.is_refused

@@ -10,6 +10,7 @@ use Rattle.plan_wire.specs.declared.documents.Want.TheVariants.{Plan, Session, C
 use Rattle.plan_wire.specs.declared.documents.Task as wire
 use Rattle.plan_wire.specs.declared.documents.Task.TheVariants as task
 use Rattle.plan_top.specs.Outcome.{IsOfCheck, IsOfPlan}
+use Rattle.plan_top.specs.SessionOutcome.{IsOfSession}
 
 abbrev pub IsTaskOf : Want → Task → Type 0
 IsTaskOf Plan (queries qs) = Unit {0}
@@ -67,3 +68,8 @@ pub of_plan : (t : wire.Task) → IsTaskOf Plan (task_seen t) → IsOfPlan t
 of_plan (task.Queries qs) h = h
 of_plan (task.Proof query certificate) h = h
 of_plan (task.Rounds rs) h = h
+
+pub of_session : (t : wire.Task) → IsTaskOf Session (task_seen t) → IsOfSession t
+of_session (task.Rounds rs) h = h
+of_session (task.Queries qs) h = h
+of_session (task.Proof query certificate) h = h

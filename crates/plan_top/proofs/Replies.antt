@@ -14,11 +14,11 @@ use Rattle.plan_top.specs.Plan.{OnFirst, IsReplied, IsLineOf, RepliesOutcome, qu
 use Rattle.plan_top.specs.declared.status.Status.TheVariants.{Done, WriteFault}
 
 -- ---- texts that are added one after another
-appends_both : (before mid after : Told) (xs ys : List ℕ) → Appends before mid xs → Appends mid after ys → Appends before after (xs ++ ys)
+pub appends_both : (before mid after : Told) (xs ys : List ℕ) → Appends before mid xs → Appends mid after ys → Appends before after (xs ++ ys)
 appends_both None mid after xs ys first then = rw first at then
 appends_both (Some bytes) mid after xs ys first then = rw (← append_assoc) (rw first at then)
 
-part_behind : (before mid after : Told) (xs ys : List ℕ) → Appends before mid xs → AppendsPart mid after ys → AppendsPart before after (xs ++ ys)
+pub part_behind : (before mid after : Told) (xs ys : List ℕ) → Appends before mid xs → AppendsPart mid after ys → AppendsPart before after (xs ++ ys)
 part_behind before mid after xs ys first (n, within, put) =
     let longer = length-append xs ys in
     (length xs + n, omega arith, appends_more before mid after (xs ++ ys) (length xs) n (subst (Appends before mid) (sym (take_at xs ys (length xs) refl)) first) (subst (λ rest. Appends mid after (take n rest)) (sym (drop_at xs ys (length xs) refl)) put))

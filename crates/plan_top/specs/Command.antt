@@ -40,9 +40,21 @@ command_of _ = None
 abbrev pub Reads : Option Command → Type 0
 Reads (Some Check) = Unit {0}
 Reads (Some (Plan _)) = Unit {0}
+Reads (Some (Session _)) = Unit {0}
 Reads _ = ⊥
 
--- a number of workers from 1 to 16, where the command plans
-abbrev pub HasWorkers : Option Command → Type 0
-HasWorkers (Some (Plan n)) = (1 ≤ n) × (n ≤ 16)
-HasWorkers _ = Unit {0}
+-- a command that tells watchers
+abbrev pub TellsWatchers : Option Command → Type 0
+TellsWatchers (Some (Session _)) = Unit {0}
+TellsWatchers _ = ⊥
+
+-- from 1 to the limit
+abbrev pub IsUpTo : ℕ → ℕ → Type 0
+IsUpTo limit n = (1 ≤ n) × (n ≤ limit)
+
+-- a command whose number of workers is from 1 to 16, and whose number of a demonstration is from 1 to 1000
+abbrev pub IsInRange : Option Command → Type 0
+IsInRange (Some (Plan n)) = IsUpTo 16 n
+IsInRange (Some (Session n)) = IsUpTo 16 n
+IsInRange (Some (Demo k n)) = IsUpTo 1000 k × IsUpTo 16 n
+IsInRange _ = Unit {0}

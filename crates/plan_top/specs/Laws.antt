@@ -1,14 +1,18 @@
--- The answers of `check` exclude each other, and the lines of `plan` are one.
+-- The answers of `check` exclude each other, the lines of `plan` and of `demo` are one, and a session begins only in a first scene.
 use Rattle.std.specs.Prelude.{◌≡◌, ℕ, List, Some, All}
 use Rattle.plan_spec.specs.Segment.{HasPoints}
 use Rattle.plan_spec.specs.Vector.{IsPoint}
 use Rattle.plan_wire.specs.Documents.{Document, Certificate, path, chain, Task}
 use Rattle.plan_check.specs.declared.fault.CheckFault.{CheckFault}
 use Rattle.plan_check.specs.declared.verdict.Verdict.TheVariants.{Valid, Invalid}
+use Rattle.plan_top.specs.Demo.{IsDemo}
 use Rattle.plan_top.specs.Lines.{line_of}
-use Rattle.plan_top.specs.Outcome.{OnProof, IsJudged, IsAnswer}
+use Rattle.plan_top.specs.Outcome.{OnProof, IsJudged, IsAnswer, IsRefusedScene}
 use Rattle.plan_top.specs.Plan.{IsPlanned, OnQueries}
+use Rattle.plan_top.specs.Session.{IsSession, IsSessionBegun, Line}
 use Rattle.plan_top.specs.Status.{code_of}
+use Rattle.plan_top.specs.Watching.{Pair}
+use Rattle.plan_top.specs.declared.status.Refusal.{Refusal}
 use Rattle.plan_top.specs.declared.status.Status.{Status}
 
 -- the ends of the segments of a chain are points
@@ -43,3 +47,11 @@ AskPoints t = OnQueries t (All (λ q. IsPoint q.start × IsPoint q.goal))
 -- of one document the planned text is one
 abbrev pub OnePlan : Type 0
 OnePlan = (d : Document) (t u : List ℕ) → AskPoints d.task → IsPlanned d t → IsPlanned d u → t ≡ u
+
+-- of a document whose first scene is refused no rounds are played
+abbrev pub RefusedOrBegun : Type 0
+RefusedOrBegun = (d : Document) (refusal : Refusal) (pairs : List Pair) → IsRefusedScene d refusal → ((text : List ℕ) → ¬ (IsSession d text pairs)) × ((lines : List Line) → ¬ (IsSessionBegun d lines pairs))
+
+-- of one number the two lines are one
+abbrev pub OneDemo : Type 0
+OneDemo = (number : ℕ) (t u : List ℕ) → IsDemo number t → IsDemo number u → t ≡ u

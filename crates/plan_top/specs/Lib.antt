@@ -5,3 +5,13 @@ pub mod First
 pub mod Plan
 pub mod Outcome
 pub mod Laws
+pub mod Planning
+pub mod Watching
+pub mod Telling
+pub mod Played
+pub mod Session
+pub mod SessionOutcome
+pub mod CallOutcome
+pub mod Demo
+pub mod DemoOutcome
+pub mod Demonstration

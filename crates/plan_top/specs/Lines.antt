@@ -4,7 +4,7 @@ use Rattle.plan_scene.specs.declared.fault.EditFault.{EditFault}
 use Rattle.plan_scene.specs.declared.fault.EditFault.TheVariants as edit
 use Rattle.plan_check.specs.Fault.{fault_text}
 use Rattle.plan_top.specs.declared.status.Refusal.{Refusal}
-use Rattle.plan_top.specs.declared.status.Refusal.TheVariants.{TooLong, Json, Form, Range, RobotNotSimple, Obstacle, TooManyRegions, Later}
+use Rattle.plan_top.specs.declared.status.Refusal.TheVariants.{TooLong, Json, Form, Range, RobotNotSimple, Obstacle, TooManyRegions}
 use Rattle.plan_top.specs.declared.status.Status.{Status}
 use Rattle.plan_top.specs.declared.status.Status.TheVariants.{Done, Usage, Refused, ReadFault, WriteFault, NoMemory, Invalid}
 
@@ -32,7 +32,6 @@ refusal_line (Range place) = line (codes "refused: range " ++ string_bytes place
 refusal_line (RobotNotSimple i j) = line (codes "refused: robot not simple " ++ decimal i ++ codes " " ++ decimal j)
 refusal_line (Obstacle at fault) = obstacle_line at fault
 refusal_line TooManyRegions = line (codes "refused: too many regions")
-refusal_line Later = line (codes "refused: later")
 
 -- the line that comes with a status; the last three have none
 abbrev pub line_of : Status → List ℕ

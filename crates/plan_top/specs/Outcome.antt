@@ -1,5 +1,5 @@
--- What a call answers and writes, by the bytes that its source tells, and which of its two counts of faults rises.
-use Rattle.std.specs.Prelude.{◌≡◌, ℕ, ◌⊎◌, List, [], Option, Some, None, IfSome, Err, IsOkAnd, string_bytes}
+-- What `check` and `plan` answer and write, by the bytes that their source tells; what a line did; and which of the two counts of faults rises.
+use Rattle.std.specs.Prelude.{◌≡◌, ℕ, ◌⊎◌, List, [], Option, Some, IfSome, Err, IsOkAnd, string_bytes}
 use Rattle.plan_spec.specs.Frame.{Frame}
 use Rattle.plan_spec.specs.Room.{IsRoom}
 use Rattle.plan_spec.specs.Placement as placement
@@ -20,11 +20,9 @@ use Rattle.plan_top.specs.First.{IsRefusedBy}
 use Rattle.plan_top.specs.Lines.{line_of, refusal_line}
 use Rattle.plan_top.specs.Plan.{IsPlanned, IsBegun}
 use Rattle.plan_top.specs.declared.status.Refusal.{Refusal}
-use Rattle.plan_top.specs.declared.status.Refusal.TheVariants.{TooLong, Json, Form, Range, Later}
+use Rattle.plan_top.specs.declared.status.Refusal.TheVariants.{TooLong, Json, Form, Range}
 use Rattle.plan_top.specs.declared.status.Status.{Status}
 use Rattle.plan_top.specs.declared.status.Status.TheVariants.{Done, Usage, Refused, ReadFault, WriteFault, NoMemory, Invalid}
-use Rattle.plan_top.specs.declared.command.Command.{Command}
-use Rattle.plan_top.specs.declared.command.Command.TheVariants.{Plan, Session, Check, Demo}
 
 -- bytes, where they are told
 abbrev pub Told : Type 0
@@ -153,14 +151,6 @@ LineOutcome answer before after status =
 -- the same; or nothing is written, and there was no memory for the line
 abbrev pub AnswerOutcome : Status → Told → Told → Status → Type 0
 AnswerOutcome answer before after status = LineOutcome answer before after status ⊎ ((status ≡ NoMemory) × (after ≡ before))
-
--- what a call did, by the command of its words and by its status
-abbrev pub Outcome : Option Command → Told → Told → Told → Told → Status → Type 0
-Outcome None told left before after status = LineOutcome Usage before after status
-Outcome (Some Check) told left before after status = CheckOutcome told left before after status
-Outcome (Some (Plan _)) told left before after status = PlanOutcome told left before after status
-Outcome (Some (Session _)) told left before after status = LineOutcome (Refused Later) before after status
-Outcome (Some (Demo _ _)) told left before after status = LineOutcome (Refused Later) before after status
 
 -- the source's count of faults rises where the status is a read fault, as a failure of the source raises it, and stays under every other status
 abbrev pub SourceCount : (ℕ → ℕ → Type 0) → ℕ → ℕ → Status → Type 0

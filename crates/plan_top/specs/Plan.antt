@@ -99,13 +99,6 @@ pub record IsPut (first : Scene) (q : Query) (before after : List ℕ) : Type 0 
   pub is_replied : IsReplied first q answer
   pub is_text : after ≡ before ++ answer_text answer
 
--- the start is in this part, the goal in another
-pub record IsClosedPart (first : Scene) (q : Query) (part : ℕ) : Type 0 where
-  pub is_start : IsPart (scene_seen first) q.start part
-  pub other : ℕ
-  pub is_goal : IsPart (scene_seen first) q.goal other
-  pub differ : ¬ (part ≡ other)
-
 -- the text is that of a chain that was the reply to a query whose start is in the part
 pub record IsKept (first : Scene) (kept : KeptRing) : Type 0 where
   pub query : Query

@@ -1,5 +1,5 @@
 ghost use Rattle.std.specs.Prelude.{◌≡◌, ◌≤◌, [], ◌∷◌, map, option_and_then, string_bytes};
-ghost use Rattle.plan_top.specs.Command.{HasWorkers, at_most, command_of, number_up_to, with_digits};
+ghost use Rattle.plan_top.specs.Command.{IsInRange, at_most, command_of, number_up_to, with_digits};
 
 /// What the words after the program's name ask for.
 #[derive(Clone, Copy, Debug, PartialEq, Eq)]
@@ -23,7 +23,7 @@ const MOST_DEMOS: u16 = 1000;
 /// The command of the words after the program's name, where they have one of the four forms.
 pub fn command_of(words: &[String]) -> Option<Command>
     ensures command { result ≡ command_of (map string_bytes words.now) }
-    ensures workers { HasWorkers result }
+    ensures range { IsInRange result }
 {
     match words {
         [verb] if verb.as_str() == "check" => Some(Command::Check),
@@ -40,7 +40,7 @@ pub fn command_of(words: &[String]) -> Option<Command>
 // The command of a verb and a number of workers.
 fn with_workers(verb: &str, workers: &str) -> Option<Command>
     ensures command { result ≡ command_of (verb.now ∷ workers.now ∷ []) }
-    ensures workers { HasWorkers result }
+    ensures range { IsInRange result }
 {
     match verb {
         "plan" => {
@@ -55,8 +55,8 @@ fn with_workers(verb: &str, workers: &str) -> Option<Command>
     }
 }
 
-// The number that the word writes in decimal digits, without sign or leading zero, from 1 to the limit.
-fn number_up_to(limit: u16, word: &str) -> Option<u16>
+/// The number that the word writes in decimal digits, without sign or leading zero, from 1 to the limit.
+pub fn number_up_to(limit: u16, word: &str) -> Option<u16>
     requires { limit ≤ 1000 }
     ensures { result ≡ number_up_to limit word.now }
 {

@@ -1,6 +1,6 @@
 //! The laws of answers. Each function does nothing: its contract is the law.
 
-ghost use Rattle.plan_top.specs.Laws.{ValidOrInvalid, OneFirstFault, OneAnswer, OnePlan};
+ghost use Rattle.plan_top.specs.Laws.{ValidOrInvalid, OneFirstFault, OneAnswer, OnePlan, OneDemo, RefusedOrBegun};
 
 /// No document is both valid and invalid.
 pub fn valid_or_invalid()
@@ -20,4 +20,15 @@ pub fn one_answer()
 /// No document of `plan` has two texts: its first scene is one, and the reply to each query is one.
 pub fn one_plan()
     ensures { OnePlan }
+{}
+
+/// No document whose first scene is refused has a session, nor one that is begun: so of such a one nobody is told
+/// anything.
+pub fn refused_or_begun()
+    ensures { RefusedOrBegun }
+{}
+
+/// No number has two texts of `demo`: whatever the number of workers, they count alike.
+pub fn one_demo()
+    ensures { OneDemo }
 {}

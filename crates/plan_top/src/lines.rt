@@ -11,9 +11,6 @@ const VALID: &str = "valid\n";
 /// The line of too many bytes.
 pub const TOO_LONG: &str = "refused: too long\n";
 
-/// The line of a command that is not answered yet.
-pub const LATER: &str = "refused: later\n";
-
 /// The last line of `plan`.
 pub const END: &str = "end\n";
 
@@ -47,7 +44,6 @@ fn refusal_line(alloc: Global, refusal: &Refusal) -> Result<String, AllocError>
         }
         Refusal::Obstacle { at, fault } => obstacle_line(alloc, *at, *fault),
         Refusal::TooManyRegions => String::from_str(alloc, "refused: too many regions\n"),
-        Refusal::Later => String::from_str(alloc, LATER),
     }
 }
 
@@ -59,8 +55,8 @@ fn obstacle_line(alloc: Global, at: u32, fault: EditFault) -> Result<String, All
     format!(in alloc; "refused: obstacles[{at}] {text}\n")
 }
 
-// Why an edit is refused.
-fn edit_text(alloc: Global, fault: EditFault) -> Result<String, AllocError>
+/// Why an edit is refused.
+pub fn edit_text(alloc: Global, fault: EditFault) -> Result<String, AllocError>
     ensures { IfOk result (λ text. string_bytes text ≡ edit_text fault) }
 {
     match fault {

@@ -1,10 +1,13 @@
 // The lines of replies.
-ghost use Rattle.std.specs.Prelude.{◌≡◌, ◌++◌, IfOk, IfSome, OnOk, codes, decimal};
+ghost use Rattle.std.specs.Prelude.{◌≡◌, ◌++◌, IfOk, OnOk, codes, decimal};
+ghost use Rattle.plan_grid.specs.Spot.{spot_seen};
+ghost use Rattle.plan_scene.specs.Scene.{scene_seen};
+ghost use Rattle.plan_reply.specs.Rings.{IsClosedPart};
 ghost use Rattle.plan_reply.specs.Seen.{answer_seen};
 ghost use Rattle.plan_wire.specs.Bounds.{QueryFits};
 ghost use Rattle.plan_wire.specs.CertificateText.{certificate_text};
 ghost use Rattle.plan_wire.specs.Seen.{certificate_seen, query_seen};
-ghost use Rattle.plan_top.specs.Plan.{AreKept, IsClosedPart, IsLineOf, IsPut, answer_text};
+ghost use Rattle.plan_top.specs.Plan.{AreKept, IsLineOf, IsPut, answer_text};
 
 use crate::kept::{KeptRing, kept_at};
 use crate::no_memory::NoMemory;
@@ -47,23 +50,13 @@ fn put_text(
     ensures line { OnOk result (IsPut stand.now (query_seen query) line.old.items line.new.items) }
     ensures kept { OnOk result (AreKept stand.now kept.new.items) }
 {
-    if let Some(part) = closed_part(stand, query) {
+    if let Some(part) = stand.closed_part(query) {
         return put_ring(alloc, line, stand, query, part, kept);
     }
     let Ok(reply) = stand.answer(alloc, query) else {
         return Err(NoMemory);
     };
     put_reply(alloc, line, reply)
-}
-
-// The part of the start, where the goal is in another.
-fn closed_part(stand: &Stand, query: Query) -> Option<u32>
-    requires { QueryFits query }
-    ensures { IfSome result (IsClosedPart stand.now (query_seen query)) }
-{
-    let start = stand.part_of(query.start)?;
-    let goal = stand.part_of(query.goal)?;
-    if start == goal { None } else { Some(start) }
 }
 
 // Appends the text of the reply to a query whose goal is in another part than its start: the text that is kept of the
@@ -77,7 +70,7 @@ fn put_ring(
     kept: &mut Vec<KeptRing>,
 ) -> Result<(), NoMemory>
     requires query { QueryFits query }
-    requires part { IsClosedPart stand.now (query_seen query) part }
+    requires part { IsClosedPart (scene_seen stand.now) (spot_seen query.start) (spot_seen query.goal) part }
     requires kept { AreKept stand.now kept.old.items }
     ensures line { OnOk result (IsPut stand.now (query_seen query) line.old.items line.new.items) }
     ensures kept { OnOk result (AreKept stand.now kept.new.items) }
@@ -103,8 +96,8 @@ fn put_ring(
     }
 }
 
-// Appends the text of a reply. Where memory runs out, a part of it may stand there.
-fn put_reply(alloc: Global, text: &mut Vec<u8>, reply: Reply) -> Result<(), NoMemory>
+/// Appends the text of a reply. Where memory runs out, a part of it may stand there.
+pub fn put_reply(alloc: Global, text: &mut Vec<u8>, reply: Reply) -> Result<(), NoMemory>
     ensures { OnOk result (text.new.items ≡ text.old.items ++ answer_text (answer_seen reply)) }
 {
     match reply {

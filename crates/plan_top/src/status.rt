@@ -41,8 +41,6 @@ pub enum Refusal {
     Obstacle { at: u32, fault: EditFault },
     /// The map of the first scene has more than 131,072 spans and marks.
     TooManyRegions,
-    /// It is a command that is not answered yet.
-    Later,
 }
 
 impl Status {

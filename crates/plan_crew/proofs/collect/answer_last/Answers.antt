@@ -14,10 +14,10 @@ loop-next-preserved g c =
     let at : length list - 1 ≡ last.place = omega (arith, last.counted) in
     let there : slice_get list last.place ≡ Some c.deref.result.now = search rules in
     let named : c.version-version.result ≡ g.J.Job.version_of c.deref.result.now = search rules in
-    let answered : c.in_ok-answer.answer ≡ g.J.Job.answer_of c.args.job.now c.deref.result.now c.index-questions-next.result = search rules in
+    let answered : g.J.Job.gives c.args.job.now c.deref.result.now c.index-questions-next.result c.in_ok-answer.answer = search rules in
     let grown : c.push.new.self.items ≡ c.loop-next.said.items ++ record { version = c.version-version.result; answer = c.in_ok-answer.answer } ∷ [] = search rules in
     let asked : take (c.loop-next.next + 1) c.args.questions.now ≡ take c.loop-next.next c.args.questions.now ++ c.index-questions-next.result ∷ [] = take_next _ _ _ c.loop-next-test.true c.index-questions-next.is in
-    let says : Says g.J.Job.version_of (g.J.Job.answer_of c.args.job.now) list (length list - 1) c.index-questions-next.result (c.version-version.result, c.in_ok-answer.answer) =
+    let says : Says g.J.Job.version_of (g.J.Job.gives c.args.job.now) list (length list - 1) c.index-questions-next.result (c.version-version.result, c.in_ok-answer.answer) =
     record { entry = c.deref.result.now; there = rw at there; version_is = named; answer_is = answered } in (
       omega (arith, c.loop-next-test.true),
       rw (grown, map_next _ c.loop-next.said.items (record { version = c.version-version.result; answer = c.in_ok-answer.answer }), asked)

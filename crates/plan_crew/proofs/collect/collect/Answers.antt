@@ -10,7 +10,7 @@ pub loop-next-preserved : goal.loop-next-preserved
 loop-next-preserved g c =
     let inv = c.loop-next.invariant in
     let version = g.J.Job.version_of in
-    let answer = g.J.Job.answer_of c.args.job.now in
+    let answer = g.J.Job.gives c.args.job.now in
     let list = c.args.editor.now.list in
     let lanes = c.args.lanes.now in
     let lane = c.index-lanes-next.result in

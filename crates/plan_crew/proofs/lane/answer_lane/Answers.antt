@@ -25,4 +25,4 @@ loop-next-preserved g c =
 pub returns-clause-said : goal.returns-clause-said
 returns-clause-said g c =
     let all = take_whole c.args.questions.now c.loop-next.next c.loop-next-test.false in
-    subst (λ (qs : List _). Answers g.J.Job.version_of (g.J.Job.answer_of c.args.job.now) c.loop-next.reader.list (length c.args.reader.now.list - 1) qs (map (λ s. (s.version, s.answer)) c.loop-next.said.items)) all c.loop-next.invariant.3
+    subst (λ (qs : List _). Answers g.J.Job.version_of (g.J.Job.gives c.args.job.now) c.loop-next.reader.list (length c.args.reader.now.list - 1) qs (map (λ s. (s.version, s.answer)) c.loop-next.said.items)) all c.loop-next.invariant.3

@@ -9,36 +9,36 @@ use Rattle.plan_crew.proofs.rounds.in_works.Goals as goal
 
 pub returns-in_err-edits-clause-readers : goal.returns-in_err-edits-clause-readers
 returns-in_err-edits-clause-readers g c =
-    all_trans c.args.works.now c.inform_all.new.works c.beside.new.works c.inform_all.ensures.readers (worked_goes g.J.Job.version_of (g.J.Job.answer_of c.args.job.now) c.inform_all.new.works c.beside.new.works c.args.lanes.now c.beside.ensures.lanes)
+    all_trans c.args.works.now c.inform_all.new.works c.beside.new.works c.inform_all.ensures.readers (worked_goes g.J.Job.version_of (g.J.Job.gives c.args.job.now) c.inform_all.new.works c.beside.new.works c.args.lanes.now c.beside.ensures.lanes)
 
 pub settle_all-requires-clause-shelf : goal.settle_all-requires-clause-shelf
 settle_all-requires-clause-shelf g c κs within =
-    let goes = all_trans c.args.works.now c.inform_all.new.works c.beside.new.works c.inform_all.ensures.readers (worked_goes g.J.Job.version_of (g.J.Job.answer_of c.args.job.now) c.inform_all.new.works c.beside.new.works c.args.lanes.now c.beside.ensures.lanes) in
+    let goes = all_trans c.args.works.now c.inform_all.new.works c.beside.new.works c.inform_all.ensures.readers (worked_goes g.J.Job.version_of (g.J.Job.gives c.args.job.now) c.inform_all.new.works c.beside.new.works c.args.lanes.now c.beside.ensures.lanes) in
     let shelf : c.args.editor.now.shelf ≡ c.beside.new.editor.shelf = sym (c.beside.ensures.shelf ∙ ap (λ e. e.shelf) c.inform_all.ensures.same) in
     subst (λ b. All (λ w. w.reader.shelf ≡ b) c.beside.new.works) shelf (all_of_shelf c.args.works.now c.beside.new.works c.args.editor.now.shelf c.requires.readers goes)
 
 pub returns-in_err-settle_all-clause-readers : goal.returns-in_err-settle_all-clause-readers
 returns-in_err-settle_all-clause-readers g c =
-    let goes = all_trans c.args.works.now c.inform_all.new.works c.beside.new.works c.inform_all.ensures.readers (worked_goes g.J.Job.version_of (g.J.Job.answer_of c.args.job.now) c.inform_all.new.works c.beside.new.works c.args.lanes.now c.beside.ensures.lanes) in
+    let goes = all_trans c.args.works.now c.inform_all.new.works c.beside.new.works c.inform_all.ensures.readers (worked_goes g.J.Job.version_of (g.J.Job.gives c.args.job.now) c.inform_all.new.works c.beside.new.works c.args.lanes.now c.beside.ensures.lanes) in
     all_trans c.args.works.now c.beside.new.works c.settle_all.new.works goes c.settle_all.ensures.readers
 
 pub returns-in_err-lanes-clause-readers : goal.returns-in_err-lanes-clause-readers
 returns-in_err-lanes-clause-readers g c =
-    let goes = all_trans c.args.works.now c.inform_all.new.works c.beside.new.works c.inform_all.ensures.readers (worked_goes g.J.Job.version_of (g.J.Job.answer_of c.args.job.now) c.inform_all.new.works c.beside.new.works c.args.lanes.now c.beside.ensures.lanes) in
+    let goes = all_trans c.args.works.now c.inform_all.new.works c.beside.new.works c.inform_all.ensures.readers (worked_goes g.J.Job.version_of (g.J.Job.gives c.args.job.now) c.inform_all.new.works c.beside.new.works c.args.lanes.now c.beside.ensures.lanes) in
     let then = all_trans c.args.works.now c.beside.new.works c.settle_all.new.works goes c.settle_all.ensures.readers in
     all_trans c.args.works.now c.settle_all.new.works c.collect.new.works then (equal_readers c.settle_all.new.works c.collect.new.works c.collect.ensures.readers)
 
 pub returns-clause-readers : goal.returns-clause-readers
 returns-clause-readers g c =
-    let goes = all_trans c.args.works.now c.inform_all.new.works c.beside.new.works c.inform_all.ensures.readers (worked_goes g.J.Job.version_of (g.J.Job.answer_of c.args.job.now) c.inform_all.new.works c.beside.new.works c.args.lanes.now c.beside.ensures.lanes) in
+    let goes = all_trans c.args.works.now c.inform_all.new.works c.beside.new.works c.inform_all.ensures.readers (worked_goes g.J.Job.version_of (g.J.Job.gives c.args.job.now) c.inform_all.new.works c.beside.new.works c.args.lanes.now c.beside.ensures.lanes) in
     let then = all_trans c.args.works.now c.beside.new.works c.settle_all.new.works goes c.settle_all.ensures.readers in
     all_trans c.args.works.now c.settle_all.new.works c.collect.new.works then (equal_readers c.settle_all.new.works c.collect.new.works c.collect.ensures.readers)
 
 pub returns-clause-round : goal.returns-clause-round
 returns-clause-round g c =
     let version = g.J.Job.version_of in
-    let outcome = g.J.Job.outcome_of c.args.job.now in
-    let answer = g.J.Job.answer_of c.args.job.now in
+    let outcome = g.J.Job.makes c.args.job.now in
+    let answer = g.J.Job.gives c.args.job.now in
     let before = c.args.editor.now.list in
     let after = c.beside.new.editor.list in
     let ends = map (λ e. end_seen e) c.in_ok-edits.edits.items in

@@ -1,5 +1,6 @@
 -- By the map of the stand.
-use Rattle.std.proofs.Common.{get_or, sym, subst, arith}
+use Rattle.std.proofs.Common.{◌≡◌, length, get_or, sym, subst, ◌∙◌, arith}
+use Rattle.std.proofs.lemmas.List.{get_or_default}
 use Rattle.plan_exact.proofs.Laws.{linear}
 use Rattle.plan_spec.specs.Answers.{by_path, by_chain, IsCanonicalPath, IsCanonicalChain}
 use Rattle.plan_spec.specs.Neighbours.{AreNeighbours}
@@ -10,6 +11,7 @@ use Rattle.plan_scene.specs.Scene.{scene_seen}
 use Rattle.plan_slab.specs.Subdivision.{slabs_of, regions_of}
 use Rattle.plan_ring.proofs.Alike.AnswerWalks.{walk_within}
 use Rattle.plan_reply.specs.Stand.{IsReply}
+use Rattle.plan_reply.proofs.Joined.{same_label}
 use Rattle.plan_reply.proofs.Longer.{range_points, ends_points}
 use Rattle.plan_reply.proofs.Replies.{decomposed, clear_there, path_reply, chain_reply}
 use Rattle.plan_reply.proofs.stand.Stand.way.Goals as goal
@@ -49,8 +51,8 @@ path_along-requires-clause-spots c =
     let first : IsFirstWalk (AreNeighbours (slabs_of map) (regions_of map)) from to walk = rw c.in-Some-2.is at c.in_ok-walk.ensures in
     λ k d within. ((decomposed c.self.inside.scene c.count.ensures.scene m).spots (get_or walk k d) (walk_within (slabs_of map) (regions_of map) from to walk c.in-Some.ensures.number first.is_walk k d within)).0
 
-pub returns-in_ok-path_along-in-Some-2-clause-reply : goal.returns-in_ok-path_along-in-Some-2-clause-reply
-returns-in_ok-path_along-in-Some-2-clause-reply c =
+pub returns-clause-reply : goal.returns-clause-reply
+returns-clause-reply c =
     let m = c.self.invariant.is_map in
     let scene = c.self.inside.scene in
     let map = c.self.inside.map in
@@ -73,21 +75,30 @@ returns-in_ok-path_along-in-Some-2-clause-reply c =
     (path_reply scene c.count.ensures.scene m s g (omega (arith, linear)) (omega (arith, linear)) path (range_points path c.in_ok-path_along-in-Some-2.ensures.in_range)
     (subst (λ t. IsClear (scene_seen t) s) (sym c.self.view_is) c.requires.start_clear) (subst (λ t. IsClear (scene_seen t) g) (sym c.self.view_is) c.requires.goal_clear) given)
 
-pub returns-in_ok-ring-in-None-clause-reply : goal.returns-in_ok-ring-in-None-clause-reply
-returns-in_ok-ring-in-None-clause-reply c =
-    let m = c.self.invariant.is_map in
+pub returns-then-index-clause-reply : goal.returns-then-index-clause-reply
+returns-then-index-clause-reply c =
+    let stand = c.self.invariant in
+    let m = stand.is_map in
     let scene = c.self.inside.scene in
     let map = c.self.inside.map in
+    let labels = c.self.inside.labels.items in
     let s = spot_seen c.args.query.start in
     let g = spot_seen c.args.query.goal in
     let d = decomposed scene c.count.ensures.scene m in
-    let chain = c.in_ok-ring-in-None.field-0 in
-    let ring = c.in_ok-ring-in-None.ensures.ring in
-    let apart : ¬ (AreJoined (AreNeighbours (slabs_of map) (regions_of map)) c.in-Some.from.number c.in-Some-locate.to.number) = rw c.in-None.is at c.in_ok-walk.ensures in
+    let from = c.in-Some.from.number in
+    let to = c.in-Some-locate.to.number in
+    let long = stand.are_labels.size in
+    let inside = c.in-Some.ensures.number in
+    let there = c.in-Some-locate.ensures.number in
+    let label_from : c.index.result.now ≡ get_or labels from 0 = c.index.ensures ∙ get_or_default labels from c.index.result.now 0 (omega (arith, inside, long)) in
+    let label_to : c.index-2.result.now ≡ get_or labels to 0 = c.index-2.ensures ∙ get_or_default labels to c.index-2.result.now 0 (omega (arith, there, long)) in
+    let apart : ¬ (AreJoined (AreNeighbours (slabs_of map) (regions_of map)) from to) = λ j. c.if-index.true (label_from ∙ stand.are_labels.same from to inside there j ∙ sym label_to) in
+    let chain = c.in_ok-ring.field-0 in
+    let ring = c.in_ok-ring.ensures.ring in
     let given : IsCanonicalChain (slabs_of map) (regions_of map) s g chain =
     record {
-      from = c.in-Some.from.number;
-      to = c.in-Some-locate.to.number;
+      from = from;
+      to = to;
       starts = c.in-Some.ensures.located m.sums m.room d;
       ends = c.in-Some-locate.ensures.located m.sums m.room d;
       apart = apart;
@@ -96,5 +107,20 @@ returns-in_ok-ring-in-None-clause-reply c =
       is_ring = ring.is_ring;
     } in
     subst (λ t. IsReply (scene_seen t) s g (by_chain chain)) c.self.view_is
-    (chain_reply scene c.count.ensures.scene m s g (omega (arith, linear)) (omega (arith, linear)) chain (ends_points chain c.in_ok-ring-in-None.ensures.in_range)
+    (chain_reply scene c.count.ensures.scene m s g (omega (arith, linear)) (omega (arith, linear)) chain (ends_points chain c.in_ok-ring.ensures.in_range)
     (subst (λ t. IsClear (scene_seen t) s) (sym c.self.view_is) c.requires.start_clear) (subst (λ t. IsClear (scene_seen t) g) (sym c.self.view_is) c.requires.goal_clear) given)
+
+pub unreachable-requires-in-None : goal.unreachable-requires-in-None
+unreachable-requires-in-None c =
+    let stand = c.self.invariant in
+    let map = c.self.inside.map in
+    let labels = c.self.inside.labels.items in
+    let from = c.in-Some.from.number in
+    let to = c.in-Some-locate.to.number in
+    let long = stand.are_labels.size in
+    let inside = c.in-Some.ensures.number in
+    let there = c.in-Some-locate.ensures.number in
+    let label_from : c.index.result.now ≡ get_or labels from 0 = c.index.ensures ∙ get_or_default labels from c.index.result.now 0 (omega (arith, inside, long)) in
+    let label_to : c.index-2.result.now ≡ get_or labels to 0 = c.index-2.ensures ∙ get_or_default labels to c.index-2.result.now 0 (omega (arith, there, long)) in
+    let apart : ¬ (AreJoined (AreNeighbours (slabs_of map) (regions_of map)) from to) = rw c.in-None.is at c.in_ok-walk.ensures in
+    apart (same_label (slabs_of map) (regions_of map) (length (regions_of map)) labels stand.are_labels from to inside there (sym label_from ∙ c.if-index.false ∙ label_to))

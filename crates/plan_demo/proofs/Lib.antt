@@ -1,0 +1,4 @@
+pub mod Rectangles
+pub mod QueryPoints
+mod FirstObstacles
+mod DemoCases

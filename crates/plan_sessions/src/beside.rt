@@ -1,0 +1,71 @@
+use crate::calls::{document, lines_by};
+use crate::versions::{COMES_AND_GOES, is_lawful};
+use plan_watch::{Gate, Place};
+use std::sync::atomic::{AtomicBool, Ordering};
+use std::test::Fail;
+
+// A gate that holds the edits until the first lane is at its second question, and that lane there until the second edit
+// is at hand.
+#[derive(Drop)]
+struct Holding {
+    asked: AtomicBool,
+    edited: AtomicBool,
+    failed: AtomicBool,
+}
+
+impl Holding {
+    fn new() -> Holding {
+        Holding {
+            asked: AtomicBool::new(false),
+            edited: AtomicBool::new(false),
+            failed: AtomicBool::new(false),
+        }
+    }
+
+    // Waits for the other, and notes a failure where it does not come.
+    fn hold(&self, other: &AtomicBool) {
+        for _ in 0..100_000_000 {
+            if other.load(Ordering::SeqCst) {
+                return;
+            }
+        }
+        self.failed.store(true, Ordering::SeqCst);
+    }
+}
+
+impl Gate for Holding {
+    fn pass(&self, place: Place) {
+        match place {
+            Place::Edit { edit: 1, .. } => self.hold(&self.asked),
+            Place::Edit { edit: 2, .. } => {
+                self.edited.store(true, Ordering::SeqCst);
+                self.hold(&self.asked);
+            }
+            Place::Question {
+                lane: 1,
+                query: 2,
+                ..
+            } => {
+                self.asked.store(true, Ordering::SeqCst);
+                self.hold(&self.edited);
+            }
+            _ => (),
+        }
+    }
+}
+
+// It needs a machine with two processors that gives a process two threads more: a load is repeated 100 million times,
+// which takes some tenths of a second, and within that time the other thread must come to its place. On a machine that
+// gives no threads, or one processor that stays with one of them for so long, it fails.
+#[test]
+fn edits_and_a_lane_run_at_once(rt: HostRuntime) -> Result<(), Fail> {
+    let alloc = rt.alloc();
+    let gate = Holding::new();
+    let text = document(alloc, COMES_AND_GOES)?;
+    let told = lines_by(&rt, alloc, text.as_str(), &gate, &mut Vec::new(alloc))?;
+    assert!(&rt; !gate.failed.load(Ordering::SeqCst), "a wait was in vain");
+    assert!(&rt; is_lawful(told.as_str()), "{told}");
+    assert!(&rt; told.contains("lane 1 query 1 version 0 "), "{told}");
+    assert!(&rt; !told.contains("lane 1 query 2 version 0 "), "{told}");
+    Ok(())
+}
