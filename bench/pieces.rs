@@ -146,11 +146,22 @@ fn at_most(p: Parameter, q: Parameter) -> bool {
 }
 
 fn gcd(a: u64, b: u64) -> u64 {
-    let (mut x, mut y) = (a, b);
-    while y != 0 {
-        (x, y) = (y, x % y);
+    if a == 0 {
+        return b;
     }
-    x
+    if b == 0 {
+        return a;
+    }
+    let twos = a.trailing_zeros().min(b.trailing_zeros());
+    let (mut x, mut y) = (odd_part(a), odd_part(b));
+    while x != y {
+        (x, y) = (odd_part(x.abs_diff(y)), x.min(y));
+    }
+    x << twos
+}
+
+fn odd_part(n: u64) -> u64 {
+    n >> n.trailing_zeros()
 }
 
 fn lowest(p: Parameter) -> Parameter {

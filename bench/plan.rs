@@ -59,11 +59,22 @@ fn turn(a: Spot, b: Spot, c: Spot) -> i128 {
 }
 
 fn gcd(a: u64, b: u64) -> u64 {
-    let (mut x, mut y) = (a, b);
-    while y != 0 {
-        (x, y) = (y, x % y);
+    if a == 0 {
+        return b;
     }
-    x
+    if b == 0 {
+        return a;
+    }
+    let twos = a.trailing_zeros().min(b.trailing_zeros());
+    let (mut x, mut y) = (odd_part(a), odd_part(b));
+    while x != y {
+        (x, y) = (odd_part(x.abs_diff(y)), x.min(y));
+    }
+    x << twos
+}
+
+fn odd_part(n: u64) -> u64 {
+    n >> n.trailing_zeros()
 }
 
 fn lcm(a: u64, b: u64) -> u64 {
@@ -843,32 +854,64 @@ fn ends_of(lines: &[Ratio], spans: &[Vec<Strand>], marks: &[Vec<Ratio>]) -> Vec<
     (0..spans.len()).map(ends_of_slab).collect()
 }
 
-fn between(lots: &[Lot], from: Lot, to: Lot) -> Range<u32> {
-    let first_from = |least: u64| lots.partition_point(|lot| lot.key() < least) as u32;
-    first_from(from.key())..first_from(to.key())
+fn are_below(lots: &[Lot], number: u32, least: u64) -> bool {
+    if number == 0 {
+        return true;
+    }
+    let last = number as usize - 1;
+    last < lots.len() && lots[last].key() < least
 }
 
-fn walls(lots: &[Lot], line: u32, low: u32, high: u32) -> Range<u32> {
-    between(lots, Lot::Wall { line, at: low }, Lot::Wall { line, at: high })
+// The number of the first lot of that key or a greater one, by a walk from `near` on where the lots before it have
+// lesser keys.
+fn first_from_near(lots: &[Lot], near: u32, least: u64) -> usize {
+    if !are_below(lots, near, least) {
+        return lots.partition_point(|lot| lot.key() < least);
+    }
+    for at in near as usize..lots.len() {
+        if least <= lots[at].key() {
+            return at;
+        }
+    }
+    lots.len()
 }
 
-fn cell_before(lots: &[Lot], slab: u32, span: usize) -> Range<u32> {
+fn between(lots: &[Lot], near: u32, from: Lot, to: Lot) -> Range<u32> {
+    let start = first_from_near(lots, near, from.key());
+    let limit = to.key();
+    for end in start..lots.len() {
+        if limit <= lots[end].key() {
+            return start as u32..end as u32;
+        }
+    }
+    start as u32..lots.len() as u32
+}
+
+fn walls(lots: &[Lot], near: u32, line: u32, low: u32, high: u32) -> Range<u32> {
+    between(lots, near, Lot::Wall { line, at: low }, Lot::Wall { line, at: high })
+}
+
+fn cell_before(lots: &[Lot], near: u32, slab: u32, span: usize) -> Range<u32> {
     let from = span.saturating_sub(1) as u32;
-    between(lots, Lot::Cell { slab, at: from }, Lot::Cell { slab, at: span as u32 })
+    between(lots, near, Lot::Cell { slab, at: from }, Lot::Cell { slab, at: span as u32 })
 }
 
-fn row_of(lots: &[Lot], ends: &[Vec<(u32, u32)>], lot: Lot) -> Row {
+// The neighbours of a cell or a wall, which may be sought from `near_left` and from `near_right` on.
+fn row_of(lots: &[Lot], ends: &[Vec<(u32, u32)>], near_left: u32, near_right: u32, lot: Lot) -> Row {
     match lot {
         Lot::Cell { slab, at } => {
             let (low, high) = (ends[slab as usize][at as usize], ends[slab as usize][at as usize + 1]);
-            Row { left: walls(lots, slab, low.0, high.0), right: walls(lots, slab + 1, low.1, high.1) }
+            Row {
+                left: walls(lots, near_left, slab, low.0, high.0),
+                right: walls(lots, near_right, slab + 1, low.1, high.1),
+            }
         }
         Lot::Wall { line, at } => {
             let left = &ends[line as usize - 1];
             let right = &ends[line as usize];
             Row {
-                left: cell_before(lots, line - 1, left.partition_point(|end| end.1 <= at)),
-                right: cell_before(lots, line, right.partition_point(|end| end.0 <= at)),
+                left: cell_before(lots, near_left, line - 1, left.partition_point(|end| end.1 <= at)),
+                right: cell_before(lots, near_right, line, right.partition_point(|end| end.0 <= at)),
             }
         }
     }
@@ -1310,8 +1353,12 @@ fn run(bytes: &[u8], is_counted: bool) -> Run {
     times.end();
     let ends = ends_of(&lines, &swept.spans, &swept.marks);
     let mut rows = Vec::new();
+    let (mut left, mut right) = (0, 0);
     for lot in &lots {
-        rows.push(row_of(&lots, &ends, *lot));
+        let row = row_of(&lots, &ends, left, right, *lot);
+        left = row.left.start;
+        right = row.right.start;
+        rows.push(row);
     }
     let slabs = Slabs { lines, spans: swept.spans, marks: swept.marks, lots, ends, rows };
     times.end();
