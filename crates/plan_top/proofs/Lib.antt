@@ -1,10 +1,10 @@
 pub mod Digits
 mod CommandCases
 pub mod Outcomes
-mod ReadsTask
+pub mod ReadsTask
 mod Firsts
 mod Alike
-mod Judged
+pub mod Judged
 mod OneKept
 mod OneRoom
 mod OneFirst
@@ -17,7 +17,7 @@ mod OneByOne
 mod Adds
 mod Replies
 mod RightAlike
-mod Planned
+pub mod Planned
 mod OnePlan
 mod KeptTexts
 mod WrittenLines

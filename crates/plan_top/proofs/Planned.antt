@@ -30,7 +30,7 @@ first_weaker P Q f (q ∷ qs) (a ∷ ans) h = (f q a h.0, first_weaker P Q f qs 
 
 -- ---- of a document
 module _ (d : Document) (first : Scene) (qs : List Query) (ready : IsReady d first qs) where
-  answered : (q : Query) (a : Answer) → IsReplied first q a → IsAnswered d.scene first q a
+  pub answered : (q : Query) (a : Answer) → IsReplied first q a → IsAnswered d.scene first q a
   answered q a h = record {
     is_reply = h.is_reply;
     is_right = subst (λ s. IsRight s q.start q.goal a) ready.is_given

@@ -1,0 +1,4 @@
+mod Texts
+mod Obstacles
+mod Queries
+mod Written
