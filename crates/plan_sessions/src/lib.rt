@@ -13,6 +13,8 @@ mod faults;
 #[cfg(test)]
 mod most;
 #[cfg(test)]
+mod places;
+#[cfg(test)]
 mod rounds;
 #[cfg(test)]
 mod stands;
