@@ -1,7 +1,8 @@
 -- Texts of a list that are put one after another.
-use Rattle.std.proofs.Common.{◌≡◌, ℕ, ◌+◌, ◌-◌, ◌<◌, ◌≤◌, List, [], ◌∷◌, ◌++◌, length, get_or, take, drop, map, refl, sym, ap, ◌∙◌, arith, append_assoc, append-nil}
+use Rattle.std.proofs.Common.{◌≡◌, ℕ, ◌+◌, ◌-◌, ◌<◌, ◌≤◌, List, [], ◌∷◌, ◌++◌, length, get_or, drop, map, refl, sym, ap, ◌∙◌, arith, append_assoc, append-nil}
 use Rattle.std.specs.List.{join_by, flat_map}
 use Rattle.std.proofs.lemmas.List.{drop_more, drop_all, take_all}
+use Rattle.plan_wire.proofs.Puts.{others}
 
 -- one that is put goes to the end of what was put
 pub put_next : {A : Type 0} (text : A → List ℕ) (begun out next : List ℕ) (xs : List A) (i : ℕ) (x : A) → i < length xs → x ≡ get_or xs i x → next ≡ out ++ text x
@@ -28,10 +29,6 @@ behind text between x = between ++ text x
 pub joined_seen : {A B : Type 0} (text : B → List ℕ) (between : List ℕ) (seen : A → B) (xs : List A) → join_by (λ x. text (seen x)) between xs ≡ join_by text between (map seen xs)
 joined_seen text between seen [] = refl
 joined_seen text between seen (x ∷ xs) = ap (λ s. text (seen x) ++ s) (of_seen (behind text between) seen xs)
-
--- all but the first
-abbrev pub others : {A : Type 0} → List A → List A
-others xs = take (length xs - 1) (drop 1 xs)
 
 -- where nothing is left behind the first, all is put
 pub all_joined : {A : Type 0} (text : A → List ℕ) (between before begun out : List ℕ) (xs : List A) (x : A) (i : ℕ) → 1 ≤ length xs → x ≡ get_or xs 0 x → begun ≡ before ++ text x → length (others xs) ≤ i

@@ -81,6 +81,7 @@ impl Model for Place {
 }
 
 impl Place {
+    /// The place at `(x / w, y / w)`. The weight must be positive.
     pub fn new(x: i64, y: i64, w: i64) -> Place
         requires { pos 0 <ℤ w }
         ensures { result ≡ record { x = x; y = y; w = w } }
@@ -88,6 +89,7 @@ impl Place {
         Place { x, y, w }
     }
 
+    /// The place of a spot.
     pub fn of(spot: Spot) -> Place
         ensures { result ≡ spot_seen spot }
     {

@@ -6,6 +6,7 @@ ghost use Rattle.plan_svg.specs.Shapes.{escaped, escaped_byte};
 use itoa::Buffer;
 use plan_wire::NoMemory;
 
+/// Puts a text as it is.
 pub fn put(out: &mut Vec<u8>, text: &str) -> Result<(), NoMemory>
     ensures { OnOk result (out.new.items ≡ out.old.items ++ text.now) }
 {
@@ -13,6 +14,7 @@ pub fn put(out: &mut Vec<u8>, text: &str) -> Result<(), NoMemory>
     Ok(())
 }
 
+/// Puts a number in decimal digits.
 pub fn put_number(out: &mut Vec<u8>, number: u128) -> Result<(), NoMemory>
     ensures { OnOk result (out.new.items ≡ out.old.items ++ decimal number) }
 {
@@ -20,6 +22,7 @@ pub fn put_number(out: &mut Vec<u8>, number: u128) -> Result<(), NoMemory>
     put(out, digits.format(number))
 }
 
+/// Puts a number in decimal digits, behind a sign where it is negative.
 pub fn put_signed(out: &mut Vec<u8>, number: i64) -> Result<(), NoMemory>
     ensures { OnOk result (out.new.items ≡ out.old.items ++ signed_decimal number) }
 {

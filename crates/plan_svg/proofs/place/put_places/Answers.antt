@@ -2,7 +2,8 @@
 use Rattle.std.proofs.Common.{◌++◌, ap, sym, ◌∙◌, append_assoc}
 use Rattle.std.specs.Prelude.{codes}
 use Rattle.plan_svg.specs.Shapes.{place_text}
-use Rattle.plan_svg.proofs.Puts.{behind, others, put_next, all_joined}
+use Rattle.plan_wire.proofs.Puts.{others}
+use Rattle.plan_svg.proofs.Puts.{behind, put_next, all_joined}
 use Rattle.plan_svg.proofs.place.put_places.Goals as goal
 
 pub loop-item-preserved : goal.loop-item-preserved
