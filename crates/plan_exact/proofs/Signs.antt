@@ -49,6 +49,12 @@ pos_of_nonneg {a} h apart = by (sign_of a)
     by (is_zero e) = absurd (apart e)
     by (is_negative n) = absurd (omega (arith, linear))
 
+pub not_zero_of_pos : {a : ℤ} → pos 0 <ℤ a → ¬ (a ≡ pos 0)
+not_zero_of_pos h e = omega (arith, linear)
+
+pub not_zero_of_neg : {a : ℤ} → a <ℤ pos 0 → ¬ (a ≡ pos 0)
+not_zero_of_neg h e = omega (arith, linear)
+
 -- ---- signs of a product
 pub mul_nonneg : {a b : ℤ} → pos 0 ≤ℤ a → pos 0 ≤ℤ b → pos 0 ≤ℤ (a *ℤ b)
 mul_nonneg {a = pos m} {b = pos n} h k = omega (arith, ints)
