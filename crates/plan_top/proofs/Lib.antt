@@ -6,7 +6,6 @@ mod Firsts
 mod Alike
 mod Judged
 mod OneKept
-mod OneRoom
 mod OneFirst
 mod Exclusion
 mod OneRefusal

@@ -1,18 +1,16 @@
 -- The ends of a chain that is read are points.
-use Rattle.std.proofs.Common.{◌≡◌, ◌≤◌, ℕ, suc, pos, codes, Bool, true, false, List, length, Some, is_some, nat_le, Ok, Err, if◌then◌else◌, refl, subst, arith}
-use Rattle.std.specs.Str.{is_utf8}
+use Rattle.std.proofs.Common.{◌≡◌, ◌≤◌, ℕ, suc, pos, codes, Bool, true, false, List, length, nat_le, Ok, Err, if◌then◌else◌, refl, subst, arith}
 use Rattle.std.proofs.lemmas.Bool.{leb-true}
 use Rattle.std.proofs.lemmas.Int.{ints}
 use Rattle.serde_json.specs.Data.{Data}
-use Rattle.serde_json.specs.Find.{as_object}
-use Rattle.serde_json.specs.Read.{read}
 use Rattle.plan_cross.specs.declared.certificate.Certificate.TheVariants.{Blocked}
-use Rattle.plan_wire.specs.Reading.{Read, form, too_long, json, bind, some_or, whole, member, object}
+use Rattle.plan_wire.specs.Reading.{Read, too_long, bind, whole, member, object}
 use Rattle.plan_wire.specs.Documents.{Document, Certificate, path, chain, Task, proof, query_of, certificate_of, frame_of, robot_of, obstacles_of, task_of, value_of, json_of, document_of, most_bytes}
 use Rattle.plan_wire.specs.declared.documents.Want.TheVariants.{Check}
 use Rattle.plan_wire.proofs.Lengths.{values, values_of_text, member_has_fewer}
-use Rattle.plan_wire.proofs.Kept.Reads.{bind_ok, made_ok, some_or_ok, tested_ok, same_ok, member_ok}
+use Rattle.plan_wire.proofs.Kept.Reads.{bind_ok, made_ok, same_ok, member_ok}
 use Rattle.plan_wire.proofs.Kept.Tasks.{certificate_kept}
+use Rattle.plan_wire.proofs.Kept.Whole.{object_is, json_ok}
 use Rattle.plan_top.specs.Laws.{HasEnds, IsOfPoints}
 use Rattle.plan_top.specs.Outcome.{OnProof}
 
@@ -33,10 +31,6 @@ of_task place v t small h =
     member_ok (codes "certificate") certificate_of place v c c_read (λ d found d_read.
     subst OfPoints is (of_certificate _ d c (omega (arith, member_has_fewer (codes "certificate") v d found)) d_read))))
 
-object_is : (place : List ℕ) (v w : Data) → object place v ≡ Ok w → v ≡ w
-unfolding object
-object_is place v w h = (tested_ok (λ u. is_some (as_object u)) (form place) v w h).1
-
 of_value : (place : List ℕ) (v : Data) (d : Document) → values v ≤ suc most_bytes → value_of Check place v ≡ Ok d → IsOfPoints d
 unfolding value_of
 of_value place v d small h =
@@ -48,13 +42,6 @@ of_value place v d small h =
     bind_ok (member (codes "obstacles") obstacles_of place w) _ d after_robot (λ _ _ after_obstacles.
     bind_ok (task_of Check place w) _ d after_obstacles (λ t t_read last.
     subst IsOfPoints (same_ok _ _ last) (of_task place w t small_w t_read)))))))
-
-json_ok : (bytes : List ℕ) (v : Data) → json_of bytes ≡ Ok v → read bytes ≡ Some v
-json_ok bytes v h = by_test (is_utf8 bytes) h
-  where
-    by_test : (t : Bool) → (let o : Read Data = if t then some_or json (read bytes) else Err json in o) ≡ Ok v → read bytes ≡ Some v
-    by_test true e = some_or_ok json (read bytes) v e
-    by_test false e = absurd cc
 
 pub ends_are_points : (bytes : List ℕ) (d : Document) → document_of bytes Check ≡ Ok d → IsOfPoints d
 unfolding document_of
