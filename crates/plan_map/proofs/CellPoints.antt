@@ -22,12 +22,6 @@ use Rattle.plan_slab.proofs.Bounded.{foot_is, foot_bounded}
 abbrev pub cell_triple : (n d p q u v : ℤ) → Vector
 cell_triple n d p q u v = record { x = pos 2 *ℤ (n *ℤ (p *ℤ q)); y = u *ℤ q +ℤ v *ℤ p; w = pos 2 *ℤ (d *ℤ (p *ℤ q)) }
 
-one : Expr
-one = con (pos 1)
-
-two : Expr
-two = con (pos 2)
-
 foot_parts : (s : Strand) (z : Vector) → foot (strand_seen s) z ≡ record { x = z.x *ℤ (s.b.x -ℤ s.a.x); y = (foot (strand_seen s) z).y; w = (s.b.x -ℤ s.a.x) *ℤ z.w }
 foot_parts s z = vector_path
     (ring at ((C.x ⊗ A.w ⊖ A.x ⊗ con (pos 1)) ⊗ B.x ⊕ (A.x ⊗ con (pos 1) ⊖ B.x ⊗ A.w) ⊗ C.x) (A.x ⊗ (C.x ⊖ B.x)) tt)

@@ -61,9 +61,6 @@ paired_points l (b ∷ bs) [] h = absurd h
 paired_points l (b ∷ bs) (fs ∷ fss) h = ap (λ ys. marks_seen l fs ++ ys) (paired_points l bs fss h.1) ∙ sym (map-append (point_at l) fs (flat_map (λ fs. fs) fss))
 
 -- ---- points of the line
-swap : (a b c : ℤ) → (a *ℤ b) *ℤ c ≡ (a *ℤ c) *ℤ b
-swap a b c = mul_assoc a b c ∙ ap (λ z. a *ℤ z) (mul_comm b c) ∙ sym (mul_assoc a c b)
-
 on_line_point : (l f : Fraction) → IsLine l → IsRatio f → OnLine (line_seen l) (point_at l f)
 on_line_point l f hl hf = (mul_pos {a = l.den} {b = f.den} (omega (arith, linear, hl.ratio.positive)) (omega (arith, linear, hf.positive)), ap (λ z. l.num *ℤ z) (mul_comm l.den f.den) ∙ sym (mul_assoc l.num f.den l.den))
 
@@ -89,9 +86,6 @@ point_same l f g h = (
 module _ {sums : List (List Vector)} {room : Frame} {pieces : List Piece} (known : HasPieces sums room pieces) (l : Fraction) (hl : IsLine l) (bars : List Bar)
     (meets : All (λ b. IsBar sums room pieces b × BeginsBy l b × LastsTo l b) bars)
     (every : (n : ℕ) → n < length pieces → LeX (piece_at pieces n).part.a (line_seen l) → LeX (line_seen l) (piece_at pieces n).part.b → Any (λ b. b.number ≡ n) bars) where
-  abbrev line : Vector
-  line = line_seen l
-
   line_point : IsPoint (line_seen l)
   line_point = omega (arith, linear, hl.ratio.positive)
 

@@ -70,9 +70,6 @@ module _ (e : Segment) (he : HasPoints e) where
       let hp = head h in
       ⊎_elim (λ o. from_begin hp z hz o) (λ later less. before_once p.a z (at_most_less p.a p.b z hp.points.0 hp.points.1 hz hp.onward (behind z hz h later)) less) (any_cases (λ s. On s z) p ps held)
 
-  on_edge : {p : Segment} (z : Vector) → IsPoint z → IsPartOf e p → On p z → On e z
-  on_edge {p} z hz h o = on_part_of e p z he h.points hz h.from h.to o
-
   -- ---- two rows: what the one holds, the other holds
   -- the one does not begin before the other
   begins_from : {p q : Segment} {ps qs : List Segment} → AreParts e (p ∷ ps) → AreParts e (q ∷ qs) → ((z : Vector) → IsPoint z → On e z → Held (p ∷ ps) z → Held (q ∷ qs) z) → ¬ (Before p.a q.a)
