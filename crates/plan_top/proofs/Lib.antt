@@ -9,6 +9,7 @@ mod OneKept
 mod OneFirst
 mod Exclusion
 mod OneRefusal
+mod OneReason
 mod ReadsPoints
 mod OneAnswer
 mod Limits
