@@ -26,6 +26,12 @@ le_or_lt a b = by (order_of a b)
     by (is_equal h) = inl (omega (arith, linear))
     by (is_greater h) = inr h
 
+pub lt_of_not_le : (a b : ℤ) → ¬ (a ≤ℤ b) → b <ℤ a
+lt_of_not_le a b off = elim (le_or_lt a b) [
+  | inl h ↦ absurd (off h)
+  | inr h ↦ h
+]
+
 pub le_or_ge : (a b : ℤ) → (a ≤ℤ b) ⊎ (b ≤ℤ a)
 le_or_ge a b = by (order_of a b)
   where

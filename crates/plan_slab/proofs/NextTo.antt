@@ -92,7 +92,7 @@ past_of value row limit n bound p = record {
 }
 
 -- ---- what never falls from one to the next
-climb : (f : ℕ → ℕ) (n : ℕ) → ((i : ℕ) → suc i < n → f i ≤ f (suc i)) → (i j : ℕ) → i ≤ j → j < n → f i ≤ f j
+pub climb : (f : ℕ → ℕ) (n : ℕ) → ((i : ℕ) → suc i < n → f i ≤ f (suc i)) → (i j : ℕ) → i ≤ j → j < n → f i ≤ f j
 climb f n step i zero le within = let e : i ≡ 0 = omega arith in omega (arith, ap f e)
 climb f n step i (suc j) le within = ⊎_elim (λ e. omega (arith, ap f e)) (λ lt. omega (arith, climb f n step i j (omega arith) (omega arith), step j within)) (eq-or-lt_of_le le)
 

@@ -24,7 +24,7 @@ use Rattle.plan_slab.specs.Heights.{IsHeight}
 use Rattle.plan_slab.specs.LineMarks.{IsUpright, AreHeightsOf, both, one, AreHeightsAt}
 use Rattle.plan_slab.specs.Seen.{line_seen, marks_seen}
 use Rattle.plan_slab.specs.Sweeps.{BeginsBy, LastsTo}
-use Rattle.plan_slab.proofs.Pieces.{IsPiece, HasPieces}
+use Rattle.plan_slab.proofs.Pieces.{IsPiece, HasPieces, bar_piece}
 use Rattle.plan_slab.proofs.Sorted.Heights.{OnLine, PieceMarks, upright, outside}
 use Rattle.plan_slab.proofs.Sorted.Marks.{marks_from, on_edge}
 
@@ -89,15 +89,12 @@ module _ {sums : List (List Vector)} {room : Frame} {pieces : List Piece} (known
   line_point : IsPoint (line_seen l)
   line_point = omega (arith, linear, hl.ratio.positive)
 
-  is_piece : (b : Bar) → IsBar sums room pieces b → IsPiece sums room b.piece
-  is_piece b h = subst (IsPiece sums room) (sym h.is) (known.each b.number (piece 0 nothing) h.within)
-
   -- the marks of one bar
   of_bar : (b : Bar) (fs : List Fraction) → All IsHeight fs → IsBar sums room pieces b × BeginsBy l b × LastsTo l b → AreHeightsOf l b fs → PieceMarks (line_seen l) b.piece (marks_seen l fs)
   of_bar b fs hf (bar, begins, lasts) are = by are hf
     where
       p : IsPiece sums room b.piece
-      p = is_piece b bar
+      p = bar_piece known b bar
 
       rises : ¬ (IsUpright b) → LtX b.piece.part.a b.piece.part.b
       rises off = ⊎_elim (λ le. absurd (not_left le)) (λ lt. lt) (le_or_lt (b.piece.part.b.x *ℤ b.piece.part.a.w) (b.piece.part.a.x *ℤ b.piece.part.b.w))

@@ -6,13 +6,13 @@ use Rattle.plan_spec.specs.Vector.{Vector, IsPoint, Same, Before}
 use Rattle.plan_spec.specs.Segment.{Segment, HasPoints, On}
 use Rattle.plan_spec.specs.Pieces.{IsPartOf}
 use Rattle.plan_plane.proofs.Lists.{any_here, any_there, any_cases, any_none, any_with}
+use Rattle.plan_plane.proofs.Rising.ByPoint.{order_before, before_once, same_of}
 use Rattle.plan_plane.proofs.Rising.Lists.{rest_after, rising_tail}
 use Rattle.plan_plane.proofs.Segment.Between.{between, between_first, between_second, on}
 use Rattle.plan_plane.proofs.Segment.Part.{on_part_of}
 use Rattle.plan_plane.proofs.Segment.Same.{Same-swapped}
 use Rattle.plan_ring.specs.Alike.{AlikeSegment}
 use Rattle.plan_ring.proofs.Alike.Along.{not_before_first, not_behind_second, on_between, Strictly, strictly_between}
-use Rattle.plan_ring.proofs.Alike.Order.{order_before, before_once}
 
 -- parts of e, one after another
 pub record AreParts (e : Segment) (ps : List Segment) : Type 0 where
@@ -29,9 +29,6 @@ at_most_less x y z hx hy hz h k = ⊎_elim (λ l. order_before.less x y z hx hy 
 
 less_at_most : (x y z : Vector) → IsPoint x → IsPoint y → IsPoint z → Before x y → ¬ (Before z y) → Before x z
 less_at_most x y z hx hy hz h k = ⊎_elim (λ l. order_before.less x y z hx hy hz h l) (λ t. ⊎_elim (λ e. order_before.less_equal x y z hx hy hz h e) (λ l. absurd (k l)) t) (order_before.total y z hy hz)
-
-same_of : (x y : Vector) → IsPoint x → IsPoint y → ¬ (Before x y) → ¬ (Before y x) → Same x y
-same_of x y hx hy h k = ⊎_elim (λ l. absurd (h l)) (λ t. ⊎_elim (λ e. e) (λ l. absurd (k l)) t) (order_before.total x y hx hy)
 
 -- ---- one part
 module _ {e p : Segment} (h : IsPartOf e p) where

@@ -4,6 +4,7 @@ use Rattle.std.proofs.lemmas.List.{get_or_default, length-map}
 use Rattle.std.proofs.lemmas.List.Elements.{All-map, All-contains}
 use Rattle.plan_exact.specs.Vectors.{dot}
 use Rattle.plan_exact.proofs.Laws.{linear}
+use Rattle.plan_exact.proofs.Signs.{lt_of_not_le}
 use Rattle.plan_spec.specs.Vector.{Vector, IsPoint, LeX, SameX, spot}
 use Rattle.plan_spec.specs.Polygon.{Inside}
 use Rattle.plan_spec.specs.Frame.{OnOrBeyond}
@@ -20,7 +21,6 @@ use Rattle.plan_convex.specs.Boxes.{Encloses}
 use Rattle.plan_convex.specs.Convex.{IsPolygon}
 use Rattle.plan_convex.specs.Piece.{sums_seen}
 use Rattle.plan_slab.specs.Near.{HasX, HasY, AreNear, IsWithinRoom, IsHeldAt}
-use Rattle.plan_slab.proofs.Regions.StraightWays.{beyond}
 
 in_box : (polygon : List Spot) (box : Frame) (z : Vector) → IsPolygon polygon → All (Encloses box) polygon → Inside (spots_seen polygon) z → HasX box z × HasY box z
 in_box polygon box z is boxed inside = (
@@ -54,10 +54,10 @@ same_range box x z hx hz e h =
 within_room : (room : Frame) (z : Vector) → ¬ (OnOrBeyond (frame_seen room) z) ↔ IsWithinRoom room z
 within_room room z = (
   λ off. record {
-    left = let h = beyond _ _ (λ h. off (inl h)) in omega (arith, linear, h);
-    right = let h = beyond _ _ (λ h. off (inr (inl h))) in omega (arith, linear, h);
-    below = let h = beyond _ _ (λ h. off (inr (inr (inl h)))) in omega (arith, linear, h);
-    above = let h = beyond _ _ (λ h. off (inr (inr (inr h)))) in omega (arith, linear, h);
+    left = let h = lt_of_not_le _ _ (λ h. off (inl h)) in omega (arith, linear, h);
+    right = let h = lt_of_not_le _ _ (λ h. off (inr (inl h))) in omega (arith, linear, h);
+    below = let h = lt_of_not_le _ _ (λ h. off (inr (inr (inl h)))) in omega (arith, linear, h);
+    above = let h = lt_of_not_le _ _ (λ h. off (inr (inr (inr h)))) in omega (arith, linear, h);
   },
   λ w. ⊎_elim (λ h. omega (arith, linear, h, w.left)) (⊎_elim (λ h. omega (arith, linear, h, w.right)) (⊎_elim (λ h. omega (arith, linear, h, w.below)) (λ h. omega (arith, linear, h, w.above)))),
 )
