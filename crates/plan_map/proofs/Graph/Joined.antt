@@ -72,9 +72,6 @@ module _ {next : ℕ → ℕ → Type 0} {goal : ℕ} (dist : List (Option ℕ))
           (measured.exact n).1 (within n w.distance w.is_some, record { distance = w.distance; is_some = w.is_some })
 
 -- ---- the numbers that have a distance, one after another
-pub none_measured : (dist : List (Option ℕ)) → AreMeasured dist 0 []
-none_measured dist = record { exact = λ n. (λ (k, within, is). absurd (omega arith), λ (less, m). absurd (omega arith)); rising = λ i j d less within. absurd (omega arith) }
-
 pub one_measured : {dist : List (Option ℕ)} {i : ℕ} {ns : List ℕ} → AreMeasured dist i ns → Measured dist i → AreMeasured dist (i + 1) (ns ++ i ∷ [])
 one_measured {dist} {i} {ns} are m = record {
   exact = λ n. (to n, from n);
