@@ -1,5 +1,5 @@
 -- Pieces are maximal: a part of an edge that is uncovered throughout lies in one piece, since between two pieces a point is covered.
-use Rattle.std.proofs.Common.{◌≡◌, ◌↔◌, inl, inr, ⊎_elim, ℕ, suc, ◌<◌, ◌≤◌, pos, ◌+ℤ◌, ◌-ℤ◌, List, [], ◌∷◌, length, get_or, Any, refl, sym, ap, subst, ◌∙◌, eq-or-lt_of_le, arith}
+use Rattle.std.proofs.Common.{◌≡◌, ◌↔◌, ⊎_elim, ℕ, suc, ◌<◌, ◌≤◌, pos, ◌+ℤ◌, ◌-ℤ◌, List, [], ◌∷◌, length, get_or, Any, refl, sym, ap, subst, ◌∙◌, eq-or-lt_of_le, arith}
 use Rattle.std.proofs.lemmas.List.{get_or_default}
 use Rattle.std.proofs.lemmas.Bool.{cases_order}
 use Rattle.plan_exact.specs.Expr.{var, con, ◌⊕◌, ◌⊖◌, ◌⊗◌}
@@ -7,11 +7,11 @@ use Rattle.plan_exact.specs.Vectors.{Vector, sum, scaled}
 use Rattle.plan_exact.proofs.Certificates.{lt_from}
 use Rattle.plan_exact.proofs.Laws.{linear}
 use Rattle.plan_exact.proofs.Signs.{signs}
-use Rattle.plan_spec.specs.Vector.{IsPoint, Same, LtX, SameX, Before}
+use Rattle.plan_spec.specs.Vector.{IsPoint, Same, Before}
 use Rattle.plan_spec.specs.Segment.{Segment, On, segment, HasPoints}
 use Rattle.plan_spec.specs.Frame.{Frame}
 use Rattle.plan_plane.proofs.Segment.Combination.{on_combination}
-use Rattle.plan_plane.proofs.Segment.Between.{flip, on, between_first, between_second}
+use Rattle.plan_plane.proofs.Segment.Between.{on, between_first, between_second}
 use Rattle.plan_plane.proofs.Segment.Same.{on_same, Same-swapped}
 use Rattle.plan_spec.specs.Weights.{Weights, IsWeights, weighted}
 use Rattle.plan_spec.specs.Boundary.{IsUncovered}
@@ -20,11 +20,11 @@ use Rattle.plan_convex.specs.Parameter.{AtMost, Less, IsShare, fraction_at, alon
 use Rattle.plan_convex.specs.Part.{InClosed}
 use Rattle.plan_plane.proofs.Segment.Weights.{HasWeights, weights_on, weights_point}
 use Rattle.plan_spec.specs.Pieces.{ArePieces}
-use Rattle.plan_bound.proofs.PiecesOfEdge.{different, before_at, not_before_at}
+use Rattle.plan_bound.proofs.PiecesOfEdge.{before_at, not_before_at}
 use Rattle.plan_convex.proofs.Fractions.{at_most_trans, less_at_most, at_most_less, weak, not_both, at_most_or_less}
 use Rattle.plan_bound.proofs.Parts.{on_part}
 use Rattle.plan_plane.proofs.Segment.Part.{on_part_of}
-use Rattle.plan_plane.proofs.Rising.ByCoordinate.{order_x}
+use Rattle.plan_plane.proofs.Rising.ByPoint.{different, order_before}
 use Rattle.plan_plane.proofs.Lists.{any_weaker}
 use Rattle.plan_plane.proofs.Segment.Reversed.{on_reversed}
 
@@ -67,11 +67,7 @@ on_weights a b x y z ha hb apart hx hy hz u v w h = (
 
 -- ---- the order of points along the edge is that of their fractions
 pub before_same : (x y u v : Vector) → IsPoint x → IsPoint y → IsPoint u → IsPoint v → Same x u → Same y v → Before x y → Before u v
-before_same x y u v hx hy hu hv e f (inl h) = inl (moved x y u v hx hy hu hv e.0 f.0 h)
-  where
-    moved : (x y u v : Vector) → IsPoint x → IsPoint y → IsPoint u → IsPoint v → SameX x u → SameX y v → LtX x y → LtX u v
-    moved x y u v hx hy hu hv e f h = order_x.less_equal u y v hu hy hv (order_x.equal_less u x y hu hx hy (sym e) h) f
-before_same x y u v hx hy hu hv e f (inr (g, h)) = inr (order_x.trans u x v hu hx hv (sym e.0) (order_x.trans x y v hx hy hv g f.0), order_x.less_equal (flip u) (flip y) (flip v) hu hy hv (order_x.equal_less (flip u) (flip x) (flip y) hu hx hy (sym e.1) h) f.1)
+before_same x y u v hx hy hu hv e f h = order_before.less_equal u y v hu hy hv (order_before.equal_less u x y hu hx hy (Same-swapped x u e) h) f
 
 -- in both directions
 less_before : (a b x y : Vector) → IsPoint a → IsPoint b → Before a b → IsPoint x → IsPoint y → (u : HasWeights a b x) (v : HasWeights a b y) → Less (fraction_at u.at) (fraction_at v.at) → Before x y

@@ -1,9 +1,6 @@
 -- The pieces of each edge, edge after edge, are those of the boundary.
-use Rattle.std.proofs.Common.{◌≡◌, ℕ, zero, suc, ◌+◌, ◌<◌, List, [], ◌∷◌, ◌++◌, map, length, get_or, All, refl, sym, ap, ap₂, subst, arith}
+use Rattle.std.proofs.Common.{◌≡◌, ℕ, zero, suc, ◌+◌, ◌<◌, List, [], ◌∷◌, ◌++◌, map, length, get_or, All, refl, ap, ap₂, subst, arith}
 use Rattle.std.specs.List.{AllZip, flat_map, range_with_len}
-use Rattle.std.specs.declared.result.Result.{Result}
-use Rattle.std.specs.Result.{MatchResult, IfOk}
-use Rattle.std.specs.declared.result.Result.TheVariants.{Ok, Err}
 use Rattle.plan_exact.specs.Vectors.{Vector}
 use Rattle.plan_spec.specs.Segment.{Segment}
 use Rattle.plan_spec.specs.Frame.{Frame}
@@ -43,15 +40,3 @@ module _ {X : Type 0} (items : X → List Piece) (sums : List (List Vector)) (ro
     each = each (boundary sums room) 0 xs (λ j d within. let e : 0 + j ≡ j = omega arith in ap (λ i. get_or (boundary sums room) i d) e) h;
     in_order = in_order 0 (length (boundary sums room)) xs h;
   }
-
--- ---- results that are all `Ok`
-oks : {T E : Type 0} (R : ℕ → Result T E → Type 0) (ks : List ℕ) (ys : List T) → AllZip R ks (map Ok ys) → AllZip (λ k y. R k (Ok y)) ks ys
-oks R [] [] h = tt
-oks R [] (y ∷ ys) h = absurd h
-oks R (k ∷ ks) [] h = absurd h
-oks R (k ∷ ks) (y ∷ ys) h = (h.0, oks R ks ys h.1)
-
-pub collected : {T C E : Type 0} (items : C → List T) (R : ℕ → Result T E → Type 0) (ks : List ℕ) (xs : List (Result T E)) (r : Result C E) (Q : E → Type 0) → AllZip R ks xs
-    → MatchResult r (λ c. (ys : List T) × (xs ≡ map Ok ys) × (items c ≡ ys)) Q → IfOk r (λ c. AllZip (λ k y. R k (Ok y)) ks (items c))
-collected items R ks xs (Ok c) Q h (ys, e, i) = subst (AllZip (λ k y. R k (Ok y)) ks) (sym i) (oks R ks ys (subst (AllZip R ks) e h))
-collected items R ks xs (Err d) Q h m = tt

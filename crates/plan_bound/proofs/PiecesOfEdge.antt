@@ -28,6 +28,7 @@ use Rattle.plan_plane.proofs.Segment.Weights.{HasWeights, weights_on, weights_po
 use Rattle.plan_spec.specs.Pieces.{ArePieces, IsPartOf}
 use Rattle.plan_bound.specs.Edge.{Covered, Spans, stays, piece_of, pieces_on}
 use Rattle.plan_plane.proofs.Lists.{any_with, any_weaker, any_filter, any_unfilter, any_to_map, any_map, all_pairs_map, none_of, no_one}
+use Rattle.plan_plane.proofs.Rising.ByPoint.{different, before_once}
 use Rattle.plan_plane.proofs.Boundary.Position.{strictly_same, uncovered_same}
 use Rattle.plan_bound.proofs.GapsLeft.{gaps_are}
 use Rattle.plan_bound.proofs.Parts.{on_part, share_point, share_on}
@@ -239,22 +240,12 @@ pub before_at : (a b : Vector) (f g : Fraction) → Before a b → Less f g → 
 before_at a b f g (inl k) h = inl (less_x a b f g h k)
 before_at a b f g (inr (e, k)) h = inr (same_x a b f g e, less_x (flip a) (flip b) f g h k)
 
-pub before_once : (p q : Vector) → Before p q → ¬ (Before q p)
-before_once p q (inl h) (inl k) = omega (arith, linear)
-before_once p q (inl h) (inr k) = omega (arith, linear, k.0)
-before_once p q (inr h) (inl k) = omega (arith, linear, h.0)
-before_once p q (inr h) (inr k) = omega (arith, linear, h.1, k.1)
-
 pub not_before_at : (a b : Vector) (f g : Fraction) → Before a b → AtMost f g → ¬ (Before (along a b g) (along a b f))
 not_before_at a b f g k h = ⊎_elim (λ i. level (level_x a b f g h i) (level_x (flip a) (flip b) f g h i)) (λ i. before_once (along a b f) (along a b g) (before_at a b f g k i)) (at_most_or_less g f)
   where
     level : SameX (along a b f) (along a b g) → SameX (along (flip a) (flip b) f) (along (flip a) (flip b) g) → Before (along a b g) (along a b f) → ⊥
     level e i (inl m) = omega (arith, linear, e)
     level e i (inr m) = omega (arith, linear, i, m.1)
-
-pub different : (a b : Vector) → Before a b → ¬ (Same a b)
-different a b (inl h) e = omega (arith, linear, e.0)
-different a b (inr h) e = omega (arith, linear, h.1, e.1)
 
 -- ---- the pieces
 gap_shares : (within g : Part) → IsShare within.from → IsShare within.to → IsGap within.from within.to g → IsShare g.from × IsShare g.to

@@ -1,24 +1,17 @@
 -- Parts in the order of where they begin: what the sort says, by cross products; and a sort changes nothing of what the parts cover.
-use Rattle.std.proofs.Common.{◌≡◌, ℤ, ◌*ℤ◌, ◌≤ℤ◌, false, List, get_or, All, Any, arith}
+use Rattle.std.proofs.Common.{ℤ, ◌*ℤ◌, List, get_or, All, Any, arith}
 use Rattle.std.specs.List.Sorted.{IsPermutation, IsSortedByKey}
 use Rattle.std.specs.Ordering.{is_lt}
-use Rattle.std.specs.declared.cmp.Ordering.{Ordering}
-use Rattle.std.specs.declared.cmp.Ordering.TheVariants.{Less, Equal, Greater}
 use Rattle.std.proofs.lemmas.List.Sorted.{All-permutation, Contains-permutation, sorted_far, ranks_by, IsPermutation-sym}
 use Rattle.plan_exact.specs.Vectors.{Vector}
 use Rattle.plan_exact.proofs.Laws.{linear}
 use Rattle.plan_grid.specs.Fraction.{fraction_cmp}
 use Rattle.plan_grid.specs.FractionOrder.{fraction_cmp_total, fraction_cmp_ranked}
-use Rattle.plan_grid.specs.Order.{IsOrder}
+use Rattle.plan_grid.proofs.Signs.{not_less}
 use Rattle.plan_convex.specs.declared.part.Part.{Part}
 use Rattle.plan_convex.specs.Parameter.{IsShare}
 use Rattle.plan_bound.specs.Edge.{AreCovered}
 use Rattle.plan_bound.specs.Gaps.{IsOpenPart, ByStart, start_of}
-
-not_less : (o : Ordering) (a b : ℤ) → IsOrder o a b → is_lt o ≡ false → b ≤ℤ a
-not_less Less a b h e = absurd (cc)
-not_less Equal a b h e = omega (arith, linear)
-not_less Greater a b h e = omega (arith, linear)
 
 pub by_start : (ps : List Part) → All IsOpenPart ps → IsSortedByKey start_of fraction_cmp ps → ByStart ps
 by_start ps proper sorted i j d less within =

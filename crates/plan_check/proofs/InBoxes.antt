@@ -1,28 +1,17 @@
 -- What a polygon holds is in its box; so where the box of a segment is apart from it, the polygon has no point of the segment, and where it has not all of it, the polygon has not both ends.
 use Rattle.std.proofs.Common.{inl, inr, ℤ, pos, ◌≤◌, ◌*ℤ◌, ◌≤ℤ◌, ◌<ℤ◌, List, length, All, arith}
-use Rattle.std.proofs.lemmas.List.Elements.{All-map}
-use Rattle.std.proofs.lemmas.List.{length-map}
-use Rattle.plan_exact.specs.Vectors.{dot}
 use Rattle.plan_exact.proofs.Laws.{linear}
 use Rattle.plan_exact.proofs.Signs.{mul_one, mul_lt_mul}
 use Rattle.plan_spec.specs.Vector.{Vector, IsPoint, spot}
 use Rattle.plan_spec.specs.Segment.{AnyOn, segment}
 use Rattle.plan_spec.specs.Polygon.{Inside, IsConvex}
-use Rattle.plan_plane.proofs.Boundary.Blocks.{below, beyond_right, above, beyond_left, below_is, right_is, above_is, left_is}
-use Rattle.plan_plane.proofs.Polygon.Fan.{nonneg_at}
 use Rattle.plan_plane.proofs.Segment.Between.{Between, between, LtX_before, LtX_after, flip, flipped}
 use Rattle.plan_grid.specs.declared.frame.Frame.{Frame}
 use Rattle.plan_grid.specs.declared.spot.Spot.{Spot}
-use Rattle.plan_grid.specs.Spot.{spot_seen, spots_seen}
+use Rattle.plan_grid.specs.Spot.{spots_seen}
 use Rattle.plan_convex.specs.Boxes.{AreApart, Encloses}
+use Rattle.plan_convex.proofs.InBox.{IsIn, inside_is_in}
 use Rattle.plan_check.specs.Boxes.{IsWholeBox, HoldsBox, HoldsBoth}
-
--- z is in the box, times its weight
-record IsIn (box : Frame) (z : Vector) : Type 0 where
-  left : (box.low.x *ℤ z.w) ≤ℤ z.x
-  right : z.x ≤ℤ (box.high.x *ℤ z.w)
-  below : (box.low.y *ℤ z.w) ≤ℤ z.y
-  above : z.y ≤ℤ (box.high.y *ℤ z.w)
 
 -- a polygon of three vertices at least, and a box that encloses them
 pub record IsBoxed (polygon : List Spot) (box : Frame) : Type 0 where
@@ -30,22 +19,11 @@ pub record IsBoxed (polygon : List Spot) (box : Frame) : Type 0 where
   pub three : 3 ≤ length polygon
   pub enclosed : All (Encloses box) polygon
 
-inside_is_in : (polygon : List Spot) (box : Frame) (z : Vector) → IsBoxed polygon box → Inside (spots_seen polygon) z → IsIn box z
-inside_is_in polygon box z b inside = record {
-  left = omega (arith, linear, right_is box.low.x z, mul_one z.x, at (beyond_right box.low.x) (λ s e. omega (arith, linear, right_is box.low.x (spot_seen s), e.left)));
-  right = omega (arith, linear, left_is box.high.x z, mul_one z.x, at (beyond_left box.high.x) (λ s e. omega (arith, linear, left_is box.high.x (spot_seen s), e.right)));
-  below = omega (arith, linear, above_is box.low.y z, mul_one z.y, at (above box.low.y) (λ s e. omega (arith, linear, above_is box.low.y (spot_seen s), e.below)));
-  above = omega (arith, linear, below_is box.high.y z, mul_one z.y, at (below box.high.y) (λ s e. omega (arith, linear, below_is box.high.y (spot_seen s), e.above)));
-}
-  where
-    at : (l : Vector) → ((s : Spot) → Encloses box s → pos 0 ≤ℤ dot l (spot_seen s)) → pos 0 ≤ℤ dot l z
-    at l f = nonneg_at (spots_seen polygon) z b.convex (omega (arith, length-map polygon spot_seen, b.three)) inside l (All-map (λ v. pos 0 ≤ℤ dot l v) spot_seen polygon (λ k d within. f _ (b.enclosed k d within)))
-
 -- ---- both ends
 pub holds_whole_box : (polygon : List Spot) (box reach : Frame) (p q : Vector) → IsBoxed polygon box → IsWholeBox p q reach → HoldsBoth p q (spots_seen polygon) → HoldsBox box reach
 holds_whole_box polygon box reach p q b whole (hp, hq) =
-    let i = inside_is_in polygon box p b hp in
-    let j = inside_is_in polygon box q b hq in
+    let i = inside_is_in polygon box p b.convex b.three b.enclosed hp in
+    let j = inside_is_in polygon box q b.convex b.three b.enclosed hq in
     (((whole.left box.low.x).1 (i.left, j.left), (whole.below box.low.y).1 (i.below, j.below)), ((whole.right box.high.x).1 (i.right, j.right), (whole.above box.high.y).1 (i.above, j.above)))
 
 -- ---- a point of the segment
@@ -64,7 +42,7 @@ pub apart : (polygon : List Spot) (box reach : Frame) (p q : Vector) → IsBoxed
 apart polygon box reach p q b whole hp hq far (z, hz, on, inside) = by far
   where
     i : IsIn box z
-    i = inside_is_in polygon box z b inside
+    i = inside_is_in polygon box z b.convex b.three b.enclosed inside
 
     m : Between p q z
     m = between p q z hp hq hz on

@@ -8,9 +8,9 @@ use Rattle.plan_spec.specs.Weights.{Weights, IsInner, weighted}
 use Rattle.plan_grid.specs.declared.spot.Spot.{Spot}
 use Rattle.plan_convex.specs.declared.part.Part.{Part}
 use Rattle.plan_grid.specs.Spot.{spots_seen}
+use Rattle.plan_grid.proofs.Edges.{edge_at, get_or-edges, length-edges}
 use Rattle.plan_convex.specs.Parameter.{fraction_at}
 use Rattle.plan_convex.specs.Part.{InOpen, value_at, IsWherePositive}
-use Rattle.plan_convex.proofs.Edges.{edge_at, get_or-edges, length-edges}
 
 value_is : (a b p q : Vector) (z : Weights) → turn p q (weighted a b z) ≡ value_at (turn p q a) (turn p q b) z
 value_is a b p q z = det_combination_3 z.s z.t a b p q

@@ -25,12 +25,13 @@ crossed_size ux uy vx vy a b c d =
     apart : (m n : ℤ) → unsigned_abs m ≤ 16744464 → unsigned_abs n ≤ 16744464 → unsigned_abs (m -ℤ n) ≤ 33488928
     apart m n h k = omega (arith, ints)
 
-step : (a b : ℤ) → unsigned_abs a ≤ 2046 → unsigned_abs b ≤ 2046 → unsigned_abs (b -ℤ a) ≤ 4092
-step a b h k = omega (arith, ints)
+-- how far apart two coordinates are
+pub run_bounded : (a b : ℤ) → unsigned_abs a ≤ 2046 → unsigned_abs b ≤ 2046 → unsigned_abs (b -ℤ a) ≤ 4092
+run_bounded a b h k = omega (arith, ints)
 
 pub turn_size : (a b c : Spot) → IsWithin 2046 a → IsWithin 2046 b → IsWithin 2046 c → unsigned_abs (turn (spot_seen a) (spot_seen b) (spot_seen c)) ≤ 33488928
 turn_size a b c ha hb hc =
-    let s = crossed_size (b.x -ℤ a.x) (b.y -ℤ a.y) (c.x -ℤ a.x) (c.y -ℤ a.y) (step a.x b.x ha.x hb.x) (step a.y b.y ha.y hb.y) (step a.x c.x ha.x hc.x) (step a.y c.y ha.y hc.y) in
+    let s = crossed_size (b.x -ℤ a.x) (b.y -ℤ a.y) (c.x -ℤ a.x) (c.y -ℤ a.y) (run_bounded a.x b.x ha.x hb.x) (run_bounded a.y b.y ha.y hb.y) (run_bounded a.x c.x ha.x hc.x) (run_bounded a.y c.y ha.y hc.y) in
     omega (arith, s, ap unsigned_abs (turn_cross a b c))
 
 -- from one spot to another it changes by the cross product with the way between them
@@ -40,5 +41,5 @@ difference_is p q a b =
 
 pub change_size : (p q a b : Spot) → IsWithin 2046 p → IsWithin 2046 q → IsWithin 2046 a → IsWithin 2046 b → unsigned_abs (turn (spot_seen p) (spot_seen q) (spot_seen b) -ℤ turn (spot_seen p) (spot_seen q) (spot_seen a)) < 2 ^ 25
 change_size p q a b hp hq ha hb =
-    let s = crossed_size (q.x -ℤ p.x) (q.y -ℤ p.y) (b.x -ℤ a.x) (b.y -ℤ a.y) (step p.x q.x hp.x hq.x) (step p.y q.y hp.y hq.y) (step a.x b.x ha.x hb.x) (step a.y b.y ha.y hb.y) in
+    let s = crossed_size (q.x -ℤ p.x) (q.y -ℤ p.y) (b.x -ℤ a.x) (b.y -ℤ a.y) (run_bounded p.x q.x hp.x hq.x) (run_bounded p.y q.y hp.y hq.y) (run_bounded a.x b.x ha.x hb.x) (run_bounded a.y b.y ha.y hb.y) in
     omega (arith, s, ap unsigned_abs (difference_is p q a b))

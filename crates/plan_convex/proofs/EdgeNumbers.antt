@@ -12,8 +12,8 @@ use Rattle.plan_spec.specs.Frame.{Frame}
 use Rattle.plan_spec.specs.Boundary.{boundary, sides}
 use Rattle.plan_grid.specs.declared.spot.Spot.{Spot}
 use Rattle.plan_grid.specs.Spot.{spot_seen, spots_seen}
+use Rattle.plan_grid.proofs.Edges.{edge_at, get_or-edges, length-edges}
 use Rattle.plan_convex.specs.Piece.{sums_seen}
-use Rattle.plan_convex.proofs.Edges.{edge_at, get_or-edges, length-edges}
 
 -- the edges of the sums from number i on, and the sides
 abbrev pub left_from : List (List Spot) → ℕ → Frame → List Segment

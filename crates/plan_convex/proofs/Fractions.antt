@@ -1,10 +1,9 @@
 -- The order of fractions with positive denominators, as `AtMost` and `Less` say it: by cross products.
-use Rattle.std.proofs.Common.{◌≡◌, ◌⊎◌, ℤ, pos, ◌*ℤ◌, ◌≤ℤ◌, ◌<ℤ◌, true, false, arith}
-use Rattle.std.proofs.lemmas.Int.{ints}
-use Rattle.std.specs.Prelude.{int_le}
+use Rattle.std.proofs.Common.{◌≡◌, ◌⊎◌, ℤ, pos, ◌*ℤ◌, ◌<ℤ◌, true, false, arith}
 use Rattle.plan_exact.proofs.Fractions.{le_trans, lt_le_trans, le_lt_trans}
 use Rattle.plan_exact.proofs.Laws.{linear, zero_mul, one_mul}
 use Rattle.plan_exact.proofs.Signs.{le_or_lt}
+use Rattle.plan_exact.proofs.Tests.{le_from_true, lt_from_false}
 use Rattle.plan_grid.specs.Fraction.{Fraction}
 use Rattle.plan_convex.specs.Parameter.{AtMost, Less, at_most, IsShare, zero, one}
 
@@ -30,17 +29,11 @@ pub at_most_or_less : (x y : Fraction) → AtMost x y ⊎ Less y x
 at_most_or_less x y = le_or_lt (x.num *ℤ y.den) (y.num *ℤ x.den)
 
 -- ---- the test
-le_yes : (x y : ℤ) → int_le x y ≡ true → x ≤ℤ y
-le_yes x y e = omega (arith, ints)
-
-le_no : (x y : ℤ) → int_le x y ≡ false → y <ℤ x
-le_no x y e = omega (arith, ints)
-
 pub at_most_true : (x y : Fraction) → at_most x y ≡ true → AtMost x y
-at_most_true x y e = le_yes (x.num *ℤ y.den) (y.num *ℤ x.den) e
+at_most_true x y e = le_from_true (x.num *ℤ y.den) (y.num *ℤ x.den) e
 
 pub at_most_false : (x y : Fraction) → at_most x y ≡ false → Less y x
-at_most_false x y e = le_no (x.num *ℤ y.den) (y.num *ℤ x.den) e
+at_most_false x y e = lt_from_false (x.num *ℤ y.den) (y.num *ℤ x.den) e
 
 -- ---- from 0 to 1
 pub zero_share : IsShare zero

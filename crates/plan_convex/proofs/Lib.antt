@@ -22,4 +22,5 @@ pub mod Spans
 pub mod EdgeNumbers
 pub mod Apart
 mod BoxOfSpots
+pub mod InBox
 pub mod Means

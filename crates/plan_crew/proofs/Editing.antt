@@ -4,7 +4,7 @@ use Rattle.std.specs.Prelude.{IfSome}
 use Rattle.std.proofs.lemmas.List.{append-nil}
 use Rattle.plan_crew.specs.declared.job.Outcome.{Outcome}
 use Rattle.plan_crew.specs.declared.job.Outcome.TheVariants.{Taken, Refused}
-use Rattle.plan_crew.specs.Edits.{entry_after, end_of, taken_before, taken_of, ends_of, AreMade}
+use Rattle.plan_crew.specs.Edits.{entry_after, taken_before, taken_of, ends_of, AreMade}
 use Rattle.plan_crew.specs.Edited.{IsEdit, AreEdits}
 
 last_added : {X : Type 0} (xs : List X) (x : X) → slice_get (xs ++ x ∷ []) (length xs) ≡ Some x
@@ -36,9 +36,6 @@ pub record Defined {E C F : Type 0} (version_of : E → ℕ) (makes : E → C �
   pub published : after ≡ before ++ taken_of outcomes
 
 module _ {E C F : Type 0} (version_of : E → ℕ) (makes : E → C → Outcome E F → Type 0) where
-  pub none_yet : (list : List E) → AreEdits version_of makes list list [] []
-  none_yet list = refl
-
   pub one_edit_more : (before now after : List E) (changes : List C) (ends : List (Result ℕ F)) (change : C) (end : Result ℕ F)
       → AreEdits version_of makes before now changes ends → IsEdit version_of makes now after change end
       → AreEdits version_of makes before after (changes ++ change ∷ []) (ends ++ end ∷ [])

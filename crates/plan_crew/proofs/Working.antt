@@ -126,9 +126,6 @@ map_length f (x ∷ xs) = let rest = map_length f xs in omega (arith, rest)
 pub take_map : {X Y : Type 0} (f : X → Y) (xs : List X) (k : ℕ) (x : X) → k < length xs → x ≡ get_or xs k x → take (k + 1) (map f xs) ≡ take k (map f xs) ++ f x ∷ []
 take_map f xs k x lt is = take_next (map f xs) k (f x) (omega (arith, lt, map_length f xs)) (ap f is ∙ sym (map_at f xs k x lt))
 
-pub take_map_whole : {X Y : Type 0} (f : X → Y) (xs : List X) (k : ℕ) → length xs ≤ k → take k (map f xs) ≡ map f xs
-take_map_whole f xs k le = take_whole (map f xs) k (omega (arith, le, map_length f xs))
-
 drop_past : {X : Type 0} (xs : List X) (k : ℕ) → length xs ≤ k → drop k xs ≡ []
 drop_past [] zero le = refl
 drop_past [] (suc k) le = refl

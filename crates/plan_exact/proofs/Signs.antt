@@ -26,6 +26,12 @@ le_or_lt a b = by (order_of a b)
     by (is_equal h) = inl (omega (arith, linear))
     by (is_greater h) = inr h
 
+pub lt_of_not_le : (a b : ℤ) → ¬ (a ≤ℤ b) → b <ℤ a
+lt_of_not_le a b off = elim (le_or_lt a b) [
+  | inl h ↦ absurd (off h)
+  | inr h ↦ h
+]
+
 pub le_or_ge : (a b : ℤ) → (a ≤ℤ b) ⊎ (b ≤ℤ a)
 le_or_ge a b = by (order_of a b)
   where
@@ -48,6 +54,12 @@ pos_of_nonneg {a} h apart = by (sign_of a)
     by (is_positive p) = p
     by (is_zero e) = absurd (apart e)
     by (is_negative n) = absurd (omega (arith, linear))
+
+pub not_zero_of_pos : {a : ℤ} → pos 0 <ℤ a → ¬ (a ≡ pos 0)
+not_zero_of_pos h e = omega (arith, linear)
+
+pub not_zero_of_neg : {a : ℤ} → a <ℤ pos 0 → ¬ (a ≡ pos 0)
+not_zero_of_neg h e = omega (arith, linear)
 
 -- ---- signs of a product
 pub mul_nonneg : {a b : ℤ} → pos 0 ≤ℤ a → pos 0 ≤ℤ b → pos 0 ≤ℤ (a *ℤ b)

@@ -24,6 +24,12 @@ lt_from_true x y e = omega (arith, ints)
 pub le_from_false : (x y : ℤ) → int_lt x y ≡ false → y ≤ℤ x
 le_from_false x y e = omega (arith, ints)
 
+pub le_from_true : (x y : ℤ) → int_le x y ≡ true → x ≤ℤ y
+le_from_true x y e = omega (arith, ints)
+
+pub lt_from_false : (x y : ℤ) → int_le x y ≡ false → y <ℤ x
+lt_from_false x y e = omega (arith, ints)
+
 -- ---- so it decides it, and any other answer that decides the same is this one
 pub Decides-int_lt : (x y : ℤ) → Decides (int_lt x y) (x <ℤ y)
 Decides-int_lt x y = (lt_from_true x y, λ h. lt_true h)

@@ -1,17 +1,12 @@
--- The laws of `dot`, `cross` and `det`. Those that nothing cites yet (`dot_comm`, `four_dot`, `four_vectors`) are stock for boundaries,
--- rings and triangulations.
+-- The laws of `dot`, `cross` and `det`.
 use Rattle.std.proofs.Common.{◌≡◌, ℤ, pos, ◌+ℤ◌, ◌-ℤ◌, ◌*ℤ◌, neg_ℤ, [], ◌∷◌}
 use Rattle.plan_exact.specs.Expr.{◌⊕◌, ◌⊖◌, ◌⊗◌, neg}
-use Rattle.plan_exact.specs.Vectors.{Vector, sum, difference, opposite, scaled, dot, cross, det, env}
+use Rattle.plan_exact.specs.Vectors.{Vector, sum, opposite, scaled, dot, cross, det, env}
 use Rattle.plan_exact.specs.Formal as F
 use Rattle.plan_exact.specs.Formal.{A, B, C, D, E, J, K}
 use Rattle.plan_exact.proofs.Ring.{ring}
-use Rattle.plan_exact.proofs.RingVectors.{ring_vectors}
 
 -- ---- dot
-pub dot_comm : (a b : Vector) → dot a b ≡ dot b a
-dot_comm a b = ring (env [] (a ∷ b ∷ [])) (F.dot A B) (F.dot B A) tt
-
 pub dot_opposite : (a b : Vector) → dot (opposite a) b ≡ neg_ℤ (dot a b)
 dot_opposite a b = ring (env [] (a ∷ b ∷ [])) (F.dot (F.opposite A) B) (neg (F.dot A B)) tt
 
@@ -45,8 +40,3 @@ det_combination_3 j k a b c d = ring (env (j ∷ k ∷ []) (a ∷ b ∷ c ∷ d 
 -- ---- four vectors: each line l has the relation between them (Cramer)
 pub four_dot : (a b c d l : Vector) → det b c d *ℤ dot l a -ℤ det a c d *ℤ dot l b +ℤ det a b d *ℤ dot l c -ℤ det a b c *ℤ dot l d ≡ pos 0
 four_dot a b c d l = ring (env [] (a ∷ b ∷ c ∷ d ∷ l ∷ [])) (F.det B C D ⊗ F.dot E A ⊖ F.det A C D ⊗ F.dot E B ⊕ F.det A B D ⊗ F.dot E C ⊖ F.det A B C ⊗ F.dot E D) F.zero tt
-
--- the same as a vector: the point in which the lines a b and c d meet, in two ways
-pub four_vectors : (a b c d : Vector) → difference (scaled (det a b d) c) (scaled (det a b c) d) ≡ difference (scaled (det a c d) b) (scaled (det b c d) a)
-four_vectors a b c d =
-    ring_vectors (env [] (a ∷ b ∷ c ∷ d ∷ [])) (F.difference (F.scaled (F.det A B D) C) (F.scaled (F.det A B C) D)) (F.difference (F.scaled (F.det A C D) B) (F.scaled (F.det B C D) A)) tt

@@ -1,5 +1,4 @@
--- The vectors of `specs.Vectors` as expressions, under the same names: what a proof by `ring` writes for them. Nothing cites `F` yet: it is
--- stock for slabs.
+-- The vectors of `specs.Vectors` as expressions, under the same names: what a proof by `ring` writes for them.
 use Rattle.std.specs.Prelude.{ℕ, ◌+◌, ◌*◌, pos}
 use Rattle.plan_exact.specs.Expr.{Expr, var, con, ◌⊕◌, ◌⊖◌, ◌⊗◌, neg}
 
@@ -30,9 +29,6 @@ D = vector 3
 abbrev pub E : Vec
 E = vector 4
 
-abbrev pub F : Vec
-F = vector 5
-
 abbrev pub J : Expr
 J = number 0
 
@@ -53,9 +49,6 @@ zero = con (pos 0)
 
 abbrev pub sum : Vec → Vec → Vec
 sum a b = record { x = a.x ⊕ b.x; y = a.y ⊕ b.y; w = a.w ⊕ b.w }
-
-abbrev pub difference : Vec → Vec → Vec
-difference a b = record { x = a.x ⊖ b.x; y = a.y ⊖ b.y; w = a.w ⊖ b.w }
 
 abbrev pub opposite : Vec → Vec
 opposite a = record { x = neg a.x; y = neg a.y; w = neg a.w }

@@ -9,9 +9,6 @@ pub record Vector : Type 0 where
 abbrev pub sum : Vector → Vector → Vector
 sum a b = record { x = a.x +ℤ b.x; y = a.y +ℤ b.y; w = a.w +ℤ b.w }
 
-abbrev pub difference : Vector → Vector → Vector
-difference a b = record { x = a.x -ℤ b.x; y = a.y -ℤ b.y; w = a.w -ℤ b.w }
-
 abbrev pub opposite : Vector → Vector
 opposite a = record { x = neg_ℤ a.x; y = neg_ℤ a.y; w = neg_ℤ a.w }
 

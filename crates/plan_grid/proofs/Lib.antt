@@ -1,4 +1,5 @@
-mod Divisors
+pub mod Divisors
+pub mod Edges
 pub mod FormalSpots
 mod Heights
 pub mod Lowest

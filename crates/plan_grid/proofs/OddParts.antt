@@ -16,11 +16,6 @@ unfolding doubled
 doubled_pow zero n = omega arith
 doubled_pow (suc k) n = ap (λ p. n * p) (pow-suc 2 k) ∙ sym (mul_assoc n (2 ^ k) 2) ∙ mul_comm (n * 2 ^ k) 2 ∙ ap (λ m. 2 * m) (doubled_pow k n)
 
-pub at_least : (k n : ℕ) → n ≤ doubled k n
-unfolding doubled
-at_least zero n = omega arith
-at_least (suc k) n = omega (arith, at_least k n)
-
 -- a number whose lowest k bits are 0
 pub halves : (k n : ℕ) → ((i : ℕ) → i < k → bit_at n i ≡ 0) → n ≡ doubled k (n / 2 ^ k)
 unfolding doubled
@@ -86,9 +81,6 @@ next_pair x y d z r k hx hy ed e (inr (le, is)) = (
   subst (λ n. n % 2 ≡ 1) (sym is) hy,
   λ g h. from_difference x y r k g le (let f : x - y ≡ d = omega (arith, le, ed) in f ∙ e) hy (subst (λ n. IsGcd r n g) is h),
 )
-
-pub no_greater : (r k : ℕ) → r ≤ r * 2 ^ k
-no_greater r k = omega (arith, at_least k r, doubled_pow k r)
 
 -- a pair of equals
 pub shifted : (a b x m : ℕ) → 0 < a → a < 2 ^ 64 → IsGcd a b (doubled m x) → IsGcd a b (x * 2 ^ m % 2 ^ 64)

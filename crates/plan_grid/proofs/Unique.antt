@@ -18,7 +18,7 @@ use Rattle.plan_grid.proofs.Lowest.{on_axis}
 use Rattle.plan_grid.proofs.Multiples.{gcd_of_multiples}
 
 -- two numbers have a greatest common divisor, by induction on a bound of the second
-gcd_exists : (n a b : ℕ) → b ≤ n → (g : ℕ) × IsGcd a b g
+pub gcd_exists : (n a b : ℕ) → b ≤ n → (g : ℕ) × IsGcd a b g
 gcd_exists n a zero h = (a, IsGcd-from_zero a 0 refl)
 gcd_exists zero a (suc b) h = absurd (omega arith)
 gcd_exists (suc n) a (suc b) h =

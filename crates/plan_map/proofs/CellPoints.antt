@@ -1,32 +1,27 @@
 -- The point halfway between two spans at an x, with one factor taken out.
 use Rattle.std.proofs.Common.{◌≡◌, ℕ, ◌+◌, ◌*◌, ◌≤◌, ◌^◌, ℤ, pos, ◌+ℤ◌, ◌-ℤ◌, ◌*ℤ◌, ◌<ℤ◌, List, [], ◌∷◌, refl, sym, ap, ap₂, ◌∙◌, subst, unsigned_abs, arith}
-use Rattle.std.proofs.lemmas.Int.{ints, unsigned_abs-mul}
+use Rattle.std.proofs.lemmas.Int.{unsigned_abs-mul}
 use Rattle.plan_exact.specs.Expr.{Expr, con, ◌⊕◌, ◌⊖◌, ◌⊗◌}
 use Rattle.plan_exact.specs.Formal.{A, B, C}
 use Rattle.plan_exact.specs.Vectors.{env}
 use Rattle.plan_exact.proofs.Laws.{linear}
 use Rattle.plan_exact.proofs.Ring.{ring}
 use Rattle.plan_exact.proofs.RingVectors.{vector_path}
-use Rattle.plan_exact.proofs.Signs.{mul_pos}
+use Rattle.plan_exact.proofs.Signs.{mul_pos, sub_pos}
 use Rattle.plan_exact.proofs.Sizes.{product_at_most}
 use Rattle.plan_spec.specs.Vector.{Vector, Same}
 use Rattle.plan_spec.specs.Regions.{foot, halfway}
 use Rattle.plan_grid.specs.Bounds.{IsBounded}
 use Rattle.plan_grid.specs.Spot.{spot_seen}
+use Rattle.plan_convex.proofs.Distances.{run_bounded}
 use Rattle.plan_slab.specs.declared.strand.Strand.{Strand}
 use Rattle.plan_slab.specs.Heights.{IsOver}
 use Rattle.plan_slab.specs.Seen.{strand_seen}
-use Rattle.plan_slab.proofs.Bounded.{foot_is, foot_bounded}
+use Rattle.plan_slab.proofs.Bounded.{two_products, foot_is, foot_bounded}
 
 -- at the x n / d, between heights of u and v over d times the runs p and q of two spans
 abbrev pub cell_triple : (n d p q u v : ℤ) → Vector
 cell_triple n d p q u v = record { x = pos 2 *ℤ (n *ℤ (p *ℤ q)); y = u *ℤ q +ℤ v *ℤ p; w = pos 2 *ℤ (d *ℤ (p *ℤ q)) }
-
-one : Expr
-one = con (pos 1)
-
-two : Expr
-two = con (pos 2)
 
 foot_parts : (s : Strand) (z : Vector) → foot (strand_seen s) z ≡ record { x = z.x *ℤ (s.b.x -ℤ s.a.x); y = (foot (strand_seen s) z).y; w = (s.b.x -ℤ s.a.x) *ℤ z.w }
 foot_parts s z = vector_path
@@ -78,9 +73,6 @@ triple_is s t z en ed ep eq eu ev ex ey ew = vector_path
     (ew ∙ ap₂ (λ d r. pos 2 *ℤ (d *ℤ r)) ed (ap₂ (λ p q. p *ℤ q) ep eq))
 
 -- ---- how large it is
-two_products : (a b c d : ℤ) → unsigned_abs (a *ℤ b +ℤ c *ℤ d) ≤ unsigned_abs a * unsigned_abs b + unsigned_abs c * unsigned_abs d
-two_products a b c d = omega (arith, ints, unsigned_abs-mul a b, unsigned_abs-mul c d)
-
 twice : (a p q : ℤ) → unsigned_abs (pos 2 *ℤ (a *ℤ (p *ℤ q))) ≡ 2 * (unsigned_abs a * (unsigned_abs p * unsigned_abs q))
 twice a p q = unsigned_abs-mul (pos 2) (a *ℤ (p *ℤ q)) ∙ ap (λ k. 2 * k) (unsigned_abs-mul a (p *ℤ q) ∙ ap (λ k. unsigned_abs a * k) (unsigned_abs-mul p q))
 
@@ -92,12 +84,6 @@ tall d p q u v y hu hv hy = omega (arith, product_at_most u q (2046 * (p * d)) q
 
 light : (d p q : ℕ) → d ≤ 2 ^ 26 → p ≤ 4092 → q ≤ 4092 → 2 * (d * (p * q)) ≤ 2 ^ 51
 light d p q hd hp hq = omega (arith, product_at_most d (p * q) (2 ^ 26) (4092 * 4092) hd (product_at_most p q 4092 4092 hp hq))
-
-run_bounded : (a b : ℤ) → unsigned_abs a ≤ 2046 → unsigned_abs b ≤ 2046 → unsigned_abs (b -ℤ a) ≤ 4092
-run_bounded a b ha hb = omega (arith, ints)
-
-run_positive : (a b : ℤ) → a <ℤ b → pos 0 <ℤ (b -ℤ a)
-run_positive a b h = omega (arith, linear)
 
 foot_low : (s : Strand) (z : Vector) → IsOver s z → IsBounded (2 ^ 26) z → unsigned_abs (foot (strand_seen s) z).y ≤ 2046 * (unsigned_abs (s.b.x -ℤ s.a.x) * unsigned_abs z.w)
 foot_low s z over hz =
@@ -130,5 +116,5 @@ between_bounded s t z hs ht hz = record {
 
     positive : pos 0 <ℤ (pos 2 *ℤ (z.w *ℤ (p *ℤ q)))
     positive =
-        let runs = mul_pos {a = p} {b = q} (run_positive s.a.x s.b.x hs.rising) (run_positive t.a.x t.b.x ht.rising) in
+        let runs = mul_pos {a = p} {b = q} (sub_pos {a = s.a.x} {b = s.b.x} hs.rising) (sub_pos {a = t.a.x} {b = t.b.x} ht.rising) in
         mul_pos {a = pos 2} {b = z.w *ℤ (p *ℤ q)} (omega (arith, linear)) (mul_pos {a = z.w} {b = p *ℤ q} (omega (arith, linear, hz.weight)) runs)

@@ -1,4 +1,5 @@
 pub mod Lists
+pub mod Collected
 pub mod Pairs
 pub mod Backwards
 pub mod Rising

@@ -1,5 +1,4 @@
 -- What holds near z in the direction of d: at n z + d for all large n. A covector that is positive at z, or 0 there and positive at d, is positive near z; and the sum of two bounds serves two facts.
--- Nothing cites `near_point` and `near_nonneg` yet: they are stock for the cells beside a wall.
 use Rattle.std.proofs.Common.{◌≡◌, ◌⊎◌, inl, inr, ℤ, pos, ◌+ℤ◌, ◌-ℤ◌, ◌*ℤ◌, ◌≤ℤ◌, ◌<ℤ◌, List, [], ◌∷◌, All, arith}
 use Rattle.std.proofs.lemmas.List.Elements.{All-head, All-tail, All-nil, All-cons}
 use Rattle.plan_exact.specs.Expr.{con, ◌⊕◌, ◌⊖◌, ◌⊗◌}
@@ -78,9 +77,6 @@ near_pos z d l (inl h) = elim (le_or_lt (pos 0) (dot l d)) [
   | inl k ↦ record { least = pos 1; positive = omega (arith, linear); beyond = λ n b. let m : pos 0 ≤ℤ n = omega (arith, linear) in omega (arith, linear, step_value n z d l, at_least n (dot l z) m h) }
   | inr k ↦ record { least = pos 1 -ℤ dot l d; positive = omega (arith, linear); beyond = λ n b. let m : pos 0 ≤ℤ n = omega (arith, linear) in omega (arith, linear, step_value n z d l, at_least n (dot l z) m h) }
 ]
-
-pub near_nonneg : (z d l : Vector) → pos 0 ≤ℤ dot l z → pos 0 ≤ℤ dot l d → Near z d (λ p. pos 0 ≤ℤ dot l p)
-near_nonneg z d l h k = record { least = pos 1; positive = omega (arith, linear); beyond = λ n b. let m : pos 0 ≤ℤ n = omega (arith, linear) in omega (arith, linear, step_value n z d l, mul_nonneg m h) }
 
 -- ---- one step
 -- where the covector is 0 at v, the step has its sign at p

@@ -1,29 +1,16 @@
 -- What walks join is joined both ways, and by way of a third.
-use Rattle.std.proofs.Common.{◌≡◌, ◌<◌, inl, inr, ℕ, List, [], ◌∷◌, get_or, refl, sym, subst}
-use Rattle.std.proofs.lemmas.Bool.{and_parts, and_from, or_cases, or_left, or_right}
-use Rattle.plan_spec.specs.Neighbours.{beside, AreNeighbours}
-use Rattle.plan_spec.specs.Regions.{Lot, region_at}
+use Rattle.std.proofs.Common.{◌≡◌, ◌<◌, ℕ, List, [], ◌∷◌, get_or, refl, sym, subst}
+use Rattle.plan_spec.specs.Neighbours.{AreNeighbours}
+use Rattle.plan_spec.specs.Regions.{Lot}
 use Rattle.plan_spec.specs.Slabs.{Slabs}
 use Rattle.plan_spec.specs.Walks.{Leads, AreJoined, IsComponent}
 use Rattle.plan_map.specs.Labels.{AreLabels}
-use Rattle.plan_map.proofs.Graph.Joined.{leads_of, one_step_on}
-
-neighbours_turned : (σ : Slabs) (found : List Lot) (m n : ℕ) → AreNeighbours σ found m n → AreNeighbours σ found n m
-neighbours_turned σ found m n e =
-    let p = and_parts _ _ e in
-    let q = and_parts _ _ p.1 in
-    and_from _ _ q.0 (and_from _ _ p.0 (elim (or_cases (beside σ (region_at found m) (region_at found n)) (beside σ (region_at found n) (region_at found m)) q.1) [ inl l ↦ or_right _ _ l | inr l ↦ or_left _ _ l ]))
+use Rattle.plan_map.proofs.Graph.Joined.{leads_of, one_step_on, joined_on}
+use Rattle.plan_map.proofs.Graph.RegionRows.{neighbours_turned}
 
 module _ (σ : Slabs) (found : List Lot) where
   abbrev Next : ℕ → ℕ → Type 0
   Next = AreNeighbours σ found
-
-  walked_on : (m n k : ℕ) (ns : List ℕ) → AreJoined Next m n → Leads Next k n ns → AreJoined Next m k
-  walked_on m n k [] j e = subst (AreJoined Next m) e j
-  walked_on m n k (x ∷ ns) j (step, rest) = walked_on m x k ns (one_step_on Next m n x j step) rest
-
-  pub joined_on : (m n k : ℕ) → AreJoined Next m n → AreJoined Next n k → AreJoined Next m k
-  joined_on m n k i j = let (ns, leads) = leads_of Next n k j in walked_on m n k ns i leads
 
   walked_back : (m n : ℕ) (ns : List ℕ) → Leads Next n m ns → AreJoined Next n m
   walked_back m n [] e = (n ∷ [], (refl, sym e))
@@ -34,8 +21,8 @@ module _ (σ : Slabs) (found : List Lot) where
 
   -- the component of one is that of the other
   pub same_component : (m n : ℕ) (ns : List ℕ) → AreJoined Next m n → IsComponent Next m ns → IsComponent Next n ns
-  same_component m n ns j c = record { rising = c.rising; members = λ k. (λ h. joined_on n m k (joined_back m n j) ((c.members k).0 h), λ h. (c.members k).1 (joined_on m n k j h)) }
+  same_component m n ns j c = record { rising = c.rising; members = λ k. (λ h. joined_on Next n m k (joined_back m n j) ((c.members k).0 h), λ h. (c.members k).1 (joined_on Next m n k j h)) }
 
   -- of one label, so joined
   pub same_label : (count : ℕ) (labels : List ℕ) → AreLabels Next count labels → (m n : ℕ) → m < count → n < count → get_or labels m 0 ≡ get_or labels n 0 → AreJoined Next m n
-  same_label count labels l m n hm hn e = joined_on m (get_or labels m 0) n (joined_back (get_or labels m 0) m (l.joined m hm)) (subst (λ k. AreJoined Next k n) (sym e) (l.joined n hn))
+  same_label count labels l m n hm hn e = joined_on Next m (get_or labels m 0) n (joined_back (get_or labels m 0) m (l.joined m hm)) (subst (λ k. AreJoined Next k n) (sym e) (l.joined n hn))

@@ -1,4 +1,3 @@
-mod KeptLength
 mod Made
 mod Repeats
 mod Longer

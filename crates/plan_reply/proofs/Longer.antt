@@ -1,8 +1,8 @@
--- Points put behind points, one after another, in lowest terms; and which stops a walk has.
-use Rattle.std.proofs.Common.{◌≡◌, ℕ, ◌+◌, ◌<◌, ◌≤◌, List, [], ◌∷◌, ◌++◌, map, take, get_or, length, All, refl, sym, ap, subst, ◌∙◌, arith}
+-- Points put behind points, one after another, in lowest terms.
+use Rattle.std.proofs.Common.{◌≡◌, ℕ, ◌+◌, ◌<◌, List, [], ◌∷◌, ◌++◌, map, take, get_or, length, All, refl, sym, ap, subst, ◌∙◌, arith}
 use Rattle.std.specs.List.{AllZip, dedup}
-use Rattle.std.proofs.lemmas.List.{append-nil, append_assoc, map_more}
-use Rattle.std.proofs.lemmas.List.Elements.{All-append, All-cons, All-nil, All-push, All-map}
+use Rattle.std.proofs.lemmas.List.{append_assoc, map_more}
+use Rattle.std.proofs.lemmas.List.Elements.{All-append, All-cons, All-nil, All-push}
 use Rattle.plan_exact.proofs.Laws.{linear}
 use Rattle.plan_spec.specs.Vector.{Vector, IsPoint, Same}
 use Rattle.plan_spec.specs.Segment.{Segment, HasPoints}
@@ -10,11 +10,9 @@ use Rattle.plan_spec.specs.Paths.{stops, way}
 use Rattle.plan_plane.proofs.Lists.{zip_push}
 use Rattle.plan_grid.specs.Bounds.{IsInRange}
 use Rattle.plan_grid.specs.PointOrder.{point_eq}
+use Rattle.plan_ring.proofs.Alike.AnswerPaths.{stops_points}
 use Rattle.plan_reply.specs.Path.{AreLonger}
 use Rattle.plan_reply.proofs.Repeats.{deduped_alike}
-
-pub longer_none : (old : List Vector) → AreLonger [] old old
-longer_none old = record { alike = λ before h. subst (AllZip Same old) (sym (append-nil before)) h; lowest = λ h. h }
 
 pub longer_one : (vs old new : List Vector) (p v : Vector) → AreLonger vs old new → Same p v → IsInRange p → AreLonger (vs ++ v ∷ []) old (new ++ p ∷ [])
 longer_one vs old new p v l e r = record {
@@ -29,22 +27,6 @@ longer_one vs old new p v l e r = record {
 pub longer_more : (f : ℕ → Vector) (ns : List ℕ) (i d : ℕ) (old new : List Vector) (p : Vector) → i < length ns → AreLonger (map f (take i ns)) old new → Same p (f (get_or ns i d)) → IsInRange p → AreLonger (map f (take (i + 1) ns)) old (new ++ p ∷ [])
 longer_more f ns i d old new p within l e r =
     subst (λ vs. AreLonger vs old (new ++ p ∷ [])) (sym (map_more f ns i d within)) (longer_one (map f (take i ns)) old new p (f (get_or ns i d)) l e r)
-
--- ---- the stops of a walk
-pub stops_long : (f : ℕ → Vector) (ns : List ℕ) → 1 < length ns → stops f ns ≡ map f ns
-stops_long f [] h = absurd (omega arith)
-stops_long f (n ∷ []) h = absurd (omega arith)
-stops_long f (m ∷ (n ∷ ns)) h = refl
-
-pub stops_short : (f : ℕ → Vector) (ns : List ℕ) → length ns ≤ 1 → stops f ns ≡ []
-stops_short f [] h = refl
-stops_short f (n ∷ []) h = refl
-stops_short f (m ∷ (n ∷ ns)) h = absurd (omega arith)
-
-pub stops_points : (f : ℕ → Vector) (ns : List ℕ) → All (λ n. IsPoint (f n)) ns → All IsPoint (stops f ns)
-stops_points f [] h = λ k d within. absurd (omega arith)
-stops_points f (n ∷ []) h = λ k d within. absurd (omega arith)
-stops_points f (m ∷ (n ∷ ns)) h = All-map IsPoint f (m ∷ (n ∷ ns)) h
 
 -- ---- points in range are points
 pub range_points : (ps : List Vector) → All IsInRange ps → All IsPoint ps

@@ -1,7 +1,7 @@
 -- The obstacles put in so far, and the next one: put in, or refused.
 use Rattle.std.proofs.Common.{ℕ, zero, suc, ◌+◌, ◌<◌, List, [], ◌∷◌, take, length, get_or, refl, subst, arith, Result, Ok, Err, MatchResult, add-one}
 use Rattle.plan_scene.specs.Scene.{Scene, Obstacle}
-use Rattle.plan_scene.specs.Edits.{IsEdit, IsAdded, IsNotAdded, IsEdited, IsRefused}
+use Rattle.plan_scene.specs.Edits.{IsAdded, IsNotAdded, IsEdited, IsRefused}
 use Rattle.plan_scene.specs.declared.edit.Edit.{Edit}
 use Rattle.plan_scene.specs.declared.edit.Edit.TheVariants.{Add, Remove}
 use Rattle.plan_scene.specs.declared.fault.EditFault.{EditFault}
@@ -13,10 +13,6 @@ use Rattle.plan_reply.specs.declared.fault.FirstFault.{FirstFault}
 use Rattle.plan_reply.specs.declared.fault.FirstFault.TheVariants.{RobotNotSimple, Obstacle as ObstacleAt, TooManyRegions, NoMemory}
 
 -- ---- an edit that adds
-pub is_edit : (e : Edit) → IsAdd e → IsEdit e
-is_edit (Add id spots) h = h
-is_edit (Remove id) h = absurd h
-
 pub as_added : (s t : Scene) (e : Edit) → IsAdd e → IsEdited s e t → IsAdded s (obstacle_of e).id (obstacle_of e).spots t
 as_added s t (Add id spots) h k = k
 as_added s t (Remove id) h k = absurd h

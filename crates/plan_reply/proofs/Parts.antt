@@ -13,6 +13,7 @@ use Rattle.plan_spec.specs.Walks.{AreJoined}
 use Rattle.plan_scene.specs.Scene.{Scene, scene_seen, IsScene}
 use Rattle.plan_slab.specs.Subdivision.{Subdivision, slabs_of, regions_of}
 use Rattle.plan_slab.proofs.Decomposition.{touched_of}
+use Rattle.plan_map.proofs.Graph.Joined.{joined_on}
 use Rattle.plan_ring.proofs.Alike.AnswerGiven.{alike_maps}
 use Rattle.plan_ring.proofs.Alike.AnswerWalks.{one_region, same_next}
 use Rattle.plan_ring.proofs.Alike.SceneTriangles.{scene_triangles}
@@ -20,7 +21,7 @@ use Rattle.plan_ring.proofs.Alike.Slabs.{AlikeSlabs}
 use Rattle.plan_ring.specs.Grown.{IsRingOf}
 use Rattle.plan_reply.specs.Rings.{IsRing}
 use Rattle.plan_reply.specs.Stand.{IsStand, IsPart, IsReply, IsLowestAnswer}
-use Rattle.plan_reply.proofs.Joined.{joined_on, joined_back, same_component}
+use Rattle.plan_reply.proofs.Joined.{joined_back, same_component}
 use Rattle.plan_reply.proofs.Longer.{ends_points}
 use Rattle.plan_reply.proofs.Replies.{floor, decomposed, clear_there, clear_here, chain_reply}
 
@@ -86,8 +87,8 @@ module _ (scene : Scene) (is_scene : IsScene scene) where
           starts = b.is_in;
           ends = c.is_in;
           apart = λ j.
-              let low = b.least other c.within (joined_on σ found other c.region b.region c.joined (joined_back σ found b.region c.region j)) in
-              let high = c.least part b.within (joined_on σ found part b.region c.region b.joined j) in
+              let low = b.least other c.within (joined_on (AreNeighbours σ found) other c.region b.region c.joined (joined_back σ found b.region c.region j)) in
+              let high = c.least part b.within (joined_on (AreNeighbours σ found) part b.region c.region b.joined j) in
               closed.differ (omega (arith, low, high));
           component = k.component;
           is_component = same_component σ found part b.region k.component b.joined k.is_component;

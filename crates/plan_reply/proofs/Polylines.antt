@@ -7,17 +7,10 @@ use Rattle.plan_spec.specs.Segment.{segment, On}
 use Rattle.plan_spec.specs.Placement.{Scene}
 use Rattle.plan_spec.specs.Route.{segments_from, segments, OnRoute, StartsAt, EndsAt, IsClearPolyline}
 use Rattle.plan_plane.proofs.Lists.{any_none, any_here, any_there, any_cases}
-use Rattle.plan_plane.proofs.Segment.Between.{between_first, between_second, on}
-use Rattle.plan_plane.proofs.Segment.Part.{on_part_of}
-use Rattle.plan_plane.proofs.Segment.Same.{on_same, Same-swapped, Same-trans}
+use Rattle.plan_plane.proofs.Segment.Same.{Same-swapped, Same-trans}
+use Rattle.plan_bound.proofs.Maximal.{ends_same}
 
 -- ---- points on it
-on_alike : (p q u v z : Vector) → IsPoint p → IsPoint q → IsPoint u → IsPoint v → IsPoint z → Same p u → Same q v → On (segment p q) z → On (segment u v) z
-on_alike p q u v z hp hq hu hv hz e f o =
-    on_part_of (segment u v) (segment p q) z (hu, hv) (hp, hq) hz
-    (on_same u v u p hu hv hu hp (Same-swapped p u e) (on (between_first u v hu)))
-    (on_same u v v q hu hv hv hq (Same-swapped q v f) (on (between_second u v hv))) o
-
 module _ (z : Vector) (hz : IsPoint z) where
   at_alike : (ps qs : List Vector) → All IsPoint ps → AllZip Same ps qs → Any (λ p. Same p z) ps → Any (λ p. Same p z) qs
   at_alike [] [] hp h a = a
@@ -37,7 +30,7 @@ module _ (z : Vector) (hz : IsPoint z) where
       let hq = All-head IsPoint q ps hps in
       let hv = All-head IsPoint v us hus in
       ⊎_elim
-      (λ k. any_here (λ s. On s z) (segment u v) (segments_from v us) (on_alike p q u v z hp hq hu hv hz e f k))
+      (λ k. any_here (λ s. On s z) (segment u v) (segments_from v us) (ends_same p q u v z hp hq hu hv hz e f k))
       (λ k. any_there (λ s. On s z) (segment u v) (segments_from v us) (between_alike q v ps us hq hv (All-tail IsPoint q ps hps) (All-tail IsPoint v us hus) f h k))
       (any_cases (λ s. On s z) (segment p q) (segments_from q ps) a)
 

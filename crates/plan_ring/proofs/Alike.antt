@@ -1,5 +1,4 @@
 -- All ways to write the sums of one scene, and the pieces that they leave, are alike: the same place by place, by position. So two maps of one scene are the same by position, and so are two answers that are given.
-pub mod Order
 pub mod Zipped
 pub mod Vertices
 pub mod Polygon

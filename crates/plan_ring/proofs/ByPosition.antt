@@ -7,16 +7,15 @@ use Rattle.plan_exact.proofs.Laws.{linear}
 use Rattle.plan_exact.proofs.Signs.{le_or_lt}
 use Rattle.plan_exact.proofs.Tests.{le_true, le_false, lt_true, lt_false}
 use Rattle.plan_exact.proofs.Vectors.{det_turned}
-use Rattle.plan_spec.specs.Vector.{Vector, IsPoint, Same, SameX, LeX, turn}
+use Rattle.plan_spec.specs.Vector.{Vector, IsPoint, Same, SameX, turn}
 use Rattle.plan_spec.specs.Segment.{Segment, HasPoints}
 use Rattle.plan_spec.specs.Parity.{over_from, over, parity, xor}
 use Rattle.plan_spec.specs.Chain.{odd_end}
 use Rattle.plan_spec.specs.Frame.{Frame}
 use Rattle.plan_spec.specs.Reply.{AreBeyondOneSide, IsTight, IsSound, IsAccepted}
 use Rattle.plan_plane.proofs.Boundary.Position.{inside_same}
-use Rattle.plan_plane.proofs.Rising.ByCoordinate.{order_x}
+use Rattle.plan_plane.proofs.Rising.ByCoordinate.{order_x, before_alike, after_alike}
 use Rattle.plan_plane.proofs.Segment.Between.{flip}
-use Rattle.plan_plane.proofs.Segment.ByX.{leX_trans}
 use Rattle.plan_plane.proofs.Segment.Same.{Same-swapped, Same-trans}
 use Rattle.plan_plane.proofs.Segment.SameSign.{nonneg_same}
 use Rattle.plan_cross.proofs.ParityLaw.Position.{same_same}
@@ -26,21 +25,15 @@ abbrev pub SameEnds : Segment → Segment → Type 0
 SameEnds s t = Same s.a t.a × Same s.b t.b
 
 -- ---- by x, and by the side of a line
-before_same : (a b z : Vector) → IsPoint a → IsPoint b → IsPoint z → SameX a b → LeX a z → LeX b z
-before_same a b z ha hb hz e h = let f : LeX b a = omega (arith, linear) in leX_trans b a z hb ha hz f h
-
-after_same : (a b z : Vector) → IsPoint a → IsPoint b → IsPoint z → SameX a b → LeX z a → LeX z b
-after_same a b z ha hb hz e h = let f : LeX a b = omega (arith, linear) in leX_trans z a b hz ha hb h f
-
 le_alike : (a b z : Vector) → IsPoint a → IsPoint b → IsPoint z → SameX a b → int_le (a.x *ℤ z.w) (z.x *ℤ a.w) ≡ int_le (b.x *ℤ z.w) (z.x *ℤ b.w)
 le_alike a b z ha hb hz e = elim (le_or_lt (a.x *ℤ z.w) (z.x *ℤ a.w)) [
-  | inl h ↦ le_true h ∙ sym (le_true (before_same a b z ha hb hz e h))
+  | inl h ↦ le_true h ∙ sym (le_true (before_alike a b z ha hb hz e h))
   | inr h ↦ le_false h ∙ sym (le_false (order_x.less_equal z a b hz ha hb h e))
 ]
 
 lt_alike : (a b z : Vector) → IsPoint a → IsPoint b → IsPoint z → SameX a b → int_lt (z.x *ℤ a.w) (a.x *ℤ z.w) ≡ int_lt (z.x *ℤ b.w) (b.x *ℤ z.w)
 lt_alike a b z ha hb hz e = elim (le_or_lt (a.x *ℤ z.w) (z.x *ℤ a.w)) [
-  | inl h ↦ lt_false h ∙ sym (lt_false (before_same a b z ha hb hz e h))
+  | inl h ↦ lt_false h ∙ sym (lt_false (before_alike a b z ha hb hz e h))
   | inr h ↦ lt_true h ∙ sym (lt_true (order_x.less_equal z a b hz ha hb h e))
 ]
 
@@ -67,10 +60,10 @@ over_alike s t z hs ht hz e = ap₂ (λ x y. x || y) (from s.a s.b t.a t.b hs.0 
 
 -- ---- tight
 beyond_alike : (room : Frame) (s t : Segment) → IsPoint room.low → IsPoint room.high → HasPoints s → HasPoints t → SameEnds s t → AreBeyondOneSide room s → AreBeyondOneSide room t
-beyond_alike room s t hl hh hs ht (e, f) (inl (p, q)) = inl (before_same s.a t.a room.low hs.0 ht.0 hl e.0 p, before_same s.b t.b room.low hs.1 ht.1 hl f.0 q)
-beyond_alike room s t hl hh hs ht (e, f) (inr (inl (p, q))) = inr (inl (after_same s.a t.a room.high hs.0 ht.0 hh e.0 p, after_same s.b t.b room.high hs.1 ht.1 hh f.0 q))
-beyond_alike room s t hl hh hs ht (e, f) (inr (inr (inl (p, q)))) = inr (inr (inl (before_same (flip s.a) (flip t.a) (flip room.low) hs.0 ht.0 hl e.1 p, before_same (flip s.b) (flip t.b) (flip room.low) hs.1 ht.1 hl f.1 q)))
-beyond_alike room s t hl hh hs ht (e, f) (inr (inr (inr (p, q)))) = inr (inr (inr (after_same (flip s.a) (flip t.a) (flip room.high) hs.0 ht.0 hh e.1 p, after_same (flip s.b) (flip t.b) (flip room.high) hs.1 ht.1 hh f.1 q)))
+beyond_alike room s t hl hh hs ht (e, f) (inl (p, q)) = inl (before_alike s.a t.a room.low hs.0 ht.0 hl e.0 p, before_alike s.b t.b room.low hs.1 ht.1 hl f.0 q)
+beyond_alike room s t hl hh hs ht (e, f) (inr (inl (p, q))) = inr (inl (after_alike s.a t.a room.high hs.0 ht.0 hh e.0 p, after_alike s.b t.b room.high hs.1 ht.1 hh f.0 q))
+beyond_alike room s t hl hh hs ht (e, f) (inr (inr (inl (p, q)))) = inr (inr (inl (before_alike (flip s.a) (flip t.a) (flip room.low) hs.0 ht.0 hl e.1 p, before_alike (flip s.b) (flip t.b) (flip room.low) hs.1 ht.1 hl f.1 q)))
+beyond_alike room s t hl hh hs ht (e, f) (inr (inr (inr (p, q)))) = inr (inr (inr (after_alike (flip s.a) (flip t.a) (flip room.high) hs.0 ht.0 hh e.1 p, after_alike (flip s.b) (flip t.b) (flip room.high) hs.1 ht.1 hh f.1 q)))
 
 sound_alike : (sums : List (List Vector)) (room : Frame) (s t : Segment) → IsPoint room.low → IsPoint room.high → HasPoints s → HasPoints t → SameEnds s t → IsSound (IsTight sums room) s → IsSound (IsTight sums room) t
 sound_alike sums room s t hl hh hs ht e (proper, tight) = ((λ flat. proper (Same-trans s.a t.a s.b ht.0 e.0 (Same-trans t.a t.b s.b ht.1 flat (Same-swapped s.b t.b e.1)))), by tight)

@@ -1,7 +1,7 @@
 -- The ring of regions that have their neighbours among them is closed: each end of a free wall is counted at the cell on its left and at the cell on its right.
-use Rattle.std.proofs.Common.{◌≡◌, inl, inr, ℕ, zero, suc, ◌≤◌, ◌<◌, Bool, true, false, ◌&&◌, List, length, AllPairs, leb, ltb, refl, sym, ap, ap₂, ◌∙◌, subst, arith}
+use Rattle.std.proofs.Common.{◌≡◌, inl, inr, ℕ, suc, ◌≤◌, ◌<◌, Bool, true, false, ◌&&◌, List, length, AllPairs, leb, ltb, refl, sym, ap, ap₂, ◌∙◌, subst, arith}
 use Rattle.std.proofs.Math.Bool.{and-false}
-use Rattle.std.proofs.lemmas.Bool.{eq-eqb, eqb-true, leb-true, ltb-true, cases_eq, cases_order, and_parts, false_from_ne_true}
+use Rattle.std.proofs.lemmas.Bool.{eq-eqb, eqb-true, leb-true, ltb-true, cases_order, and_parts, false_from_ne_true}
 use Rattle.plan_spec.specs.Vector.{Vector}
 use Rattle.plan_spec.specs.Frame.{Frame}
 use Rattle.plan_spec.specs.Parity.{xor}
@@ -11,6 +11,7 @@ use Rattle.plan_spec.specs.Regions.{Lot, cell, wall, region_at}
 use Rattle.plan_slab.specs.Decomposition.{IsDecomposition}
 use Rattle.plan_spec.specs.Neighbours.{beside}
 use Rattle.plan_spec.specs.Rings.{kept, ring}
+use Rattle.plan_slab.proofs.NextTo.{climb}
 use Rattle.plan_map.proofs.Path.Places.{IsLineOf, meets_at, meets_rise}
 use Rattle.plan_ring.proofs.Sums.{xor_below, xor_alike, xor_both, xor_none, xor_exchanged, xor_factor, xor_single, range_in}
 use Rattle.plan_ring.proofs.Ends.{has, odd_end_flat, over_rising}
@@ -24,20 +25,13 @@ pub record IsWhole (σ : Slabs) (found : List Lot) (ns : List ℕ) : Type 0 wher
   pub together : (n c : ℕ) → n < length found → c < length found → beside σ (region_at found n) (region_at found c) ≡ true → has ns n ≡ has ns c
 
 -- ---- ranges in a row
-pub climbs : (f : ℕ → ℕ) (n : ℕ) → ((i : ℕ) → suc i < n → f i ≤ f (suc i)) → (i j : ℕ) → i ≤ j → j < n → f i ≤ f j
-climbs f n step i zero h l = let e : i ≡ 0 = omega arith in omega (arith, ap f e)
-climbs f n step i (suc j) h l = elim (cases_eq i (suc j)) [
-  | inl e ↦ omega (arith, ap f e)
-  | inr d ↦ omega (arith, climbs f n step i j (omega arith) (omega arith), step j l)
-]
-
 -- a number is in one of them at most
 one_range : (f : ℕ → ℕ) (n : ℕ) → ((i : ℕ) → suc i < n → f i ≤ f (suc i)) → (a b j : ℕ) → suc a < n → suc b < n → f a ≤ j → j < f (suc a) → f b ≤ j → j < f (suc b) → a ≡ b
 one_range f n step a b j ha hb h1 h2 h3 h4 = elim (cases_order a b) [
   | inl e ↦ e
   | inr o ↦ elim o [
-    | inl l ↦ absurd (omega (arith, climbs f n step (suc a) b (omega arith) (omega arith)))
-    | inr l ↦ absurd (omega (arith, climbs f n step (suc b) a (omega arith) (omega arith)))
+    | inl l ↦ absurd (omega (arith, climb f n step (suc a) b (omega arith) (omega arith)))
+    | inr l ↦ absurd (omega (arith, climb f n step (suc b) a (omega arith) (omega arith)))
   ]
 ]
 

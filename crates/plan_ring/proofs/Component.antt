@@ -1,6 +1,6 @@
 -- The regions that walks join to one have their neighbours among them; so their ring is accepted for a point of one of them and a point of any other region.
-use Rattle.std.proofs.Common.{◌≡◌, inl, inr, ℕ, ◌<◌, true, List, [], ◌∷◌, ◌++◌, length, All, eqb, refl, sym, ◌∙◌, subst}
-use Rattle.std.proofs.lemmas.Bool.{and_parts, and_from, or_left, or_right, or_cases, ltb-true, lt-ltb, eq-eqb, false_from_ne_true}
+use Rattle.std.proofs.Common.{◌≡◌, ℕ, ◌<◌, true, List, [], ◌∷◌, length, All, eqb, refl, sym, ◌∙◌, subst}
+use Rattle.std.proofs.lemmas.Bool.{and_parts, and_from, or_left, or_right, ltb-true, lt-ltb, eq-eqb, false_from_ne_true}
 use Rattle.std.proofs.lemmas.Bool.Decides.{same_from_decides}
 use Rattle.std.proofs.lemmas.List.Elements.{All-append, All-nil, All-weaker}
 use Rattle.std.specs.List.{flat_map}
@@ -14,20 +14,12 @@ use Rattle.plan_spec.specs.Rings.{kept, ring}
 use Rattle.plan_spec.specs.Slabs.{Slabs}
 use Rattle.plan_spec.specs.Walks.{Leads, AreJoined, IsComponent}
 use Rattle.plan_slab.specs.Decomposition.{IsDecomposition}
+use Rattle.plan_map.proofs.Graph.Joined.{one_step_on}
+use Rattle.plan_map.proofs.Graph.RegionRows.{neighbours_turned}
 use Rattle.plan_ring.proofs.Closed.{IsWhole, ring_closed}
 use Rattle.plan_ring.proofs.Ends.{has, has_true, has_from}
 use Rattle.plan_ring.proofs.Odd.{ring_odd}
 use Rattle.plan_ring.proofs.Tight.{IsGood, kept_good}
-
--- ---- walks
--- one step more at the end
-longer : (next : ℕ → ℕ → Type 0) (n c m : ℕ) (ks : List ℕ) → Leads next n m ks → next n c → Leads next c m (ks ++ c ∷ [])
-longer next n c m [] e step = (subst (λ n. next n c) (sym e) step, refl)
-longer next n c m (k ∷ ks) (go, rest) step = (go, longer next n c k ks rest step)
-
-one_more : (next : ℕ → ℕ → Type 0) (m n c : ℕ) → AreJoined next m n → next n c → AreJoined next m c
-one_more next m n c ([], w) step = absurd w
-one_more next m n c (k ∷ ks, (e, leads)) step = (k ∷ (ks ++ c ∷ []), (e, longer next n c k ks leads step))
 
 module _ (σ : Slabs) (found : List Lot) where
   pub are_regions : (m n : ℕ) → AreNeighbours σ found m n → (m < length found) × (n < length found)
@@ -38,12 +30,6 @@ module _ (σ : Slabs) (found : List Lot) where
 
   neighbours_from : (m n : ℕ) → m < length found → n < length found → beside σ (region_at found m) (region_at found n) ≡ true → AreNeighbours σ found m n
   neighbours_from m n hm hn e = and_from _ _ (lt-ltb m (length found) hm) (and_from _ _ (lt-ltb n (length found) hn) (or_left _ _ e))
-
-  neighbours_turned : (m n : ℕ) → AreNeighbours σ found m n → AreNeighbours σ found n m
-  neighbours_turned m n e =
-      let p = and_parts _ _ e in
-      let q = and_parts _ _ p.1 in
-      and_from _ _ q.0 (and_from _ _ p.0 (elim (or_cases (beside σ (region_at found m) (region_at found n)) (beside σ (region_at found n) (region_at found m)) q.1) [ inl l ↦ or_right _ _ l | inr l ↦ or_left _ _ l ]))
 
   -- a walk ends in a region
   ends_in : (m n : ℕ) → m < length found → (ks : List ℕ) → Leads (AreNeighbours σ found) n m ks → n < length found
@@ -61,7 +47,7 @@ module _ (σ : Slabs) (found : List Lot) where
     together = λ n k hn hk e.
         let step = neighbours_from n k hn hk e in
         same_from_decides {P = AreJoined (AreNeighbours σ found) m n} (has ns n) (has ns k) (decided n)
-        ((λ h. one_more (AreNeighbours σ found) m k n ((decided k).0 h) (neighbours_turned n k step)), λ j. (decided k).1 (one_more (AreNeighbours σ found) m n k j step));
+        ((λ h. one_step_on (AreNeighbours σ found) m k n ((decided k).0 h) (neighbours_turned σ found n k step)), λ j. (decided k).1 (one_step_on (AreNeighbours σ found) m n k j step));
   }
     where
       decided : (n : ℕ) → (has ns n ≡ true → AreJoined (AreNeighbours σ found) m n) × (AreJoined (AreNeighbours σ found) m n → has ns n ≡ true)

@@ -5,18 +5,15 @@ use Rattle.std.proofs.lemmas.List.Elements.{All-tail}
 use Rattle.std.specs.List.{flat_map}
 use Rattle.plan_spec.specs.Vector.{Vector, same}
 use Rattle.plan_spec.specs.Segment.{Segment}
-use Rattle.plan_spec.specs.Parity.{over, parity, xor}
+use Rattle.plan_spec.specs.Parity.{parity, xor}
 use Rattle.plan_spec.specs.Chain.{odd_end}
 use Rattle.plan_cross.proofs.ParityLaw.Xor.{xor_false, xor_assoc}
+use Rattle.plan_poly.proofs.EvenOdd.Chains.{parity_append}
 use Rattle.plan_ring.proofs.Sums.{xor_below, xor_alike, xor_both, xor_at, xor_none}
 
 pub odd_end_append : (xs ys : List Segment) (z : Vector) → odd_end (xs ++ ys) z ≡ xor (odd_end xs z) (odd_end ys z)
 odd_end_append [] ys z = refl
 odd_end_append (x ∷ xs) ys z = ap (xor (xor (same x.a z) (same x.b z))) (odd_end_append xs ys z) ∙ sym (xor_assoc (xor (same x.a z) (same x.b z)) (odd_end xs z) (odd_end ys z))
-
-pub parity_append : (xs ys : List Segment) (z : Vector) → parity (xs ++ ys) z ≡ xor (parity xs z) (parity ys z)
-parity_append [] ys z = refl
-parity_append (x ∷ xs) ys z = ap (xor (over x z)) (parity_append xs ys z) ∙ sym (xor_assoc (over x z) (parity xs z) (parity ys z))
 
 -- ---- a sum over a list of numbers
 abbrev pub xor_over : (ℕ → Bool) → List ℕ → Bool

@@ -1,7 +1,7 @@
 -- The sides of a free cell are exposed: in the closed room, and strictly inside no sum. Else points of the cell would be beyond the room or in the sum.
 use Rattle.std.proofs.Common.{inl, inr, ℤ, pos, ◌≤ℤ◌, ◌<ℤ◌, List, get_or}
 use Rattle.plan_exact.specs.Vectors.{cross}
-use Rattle.plan_exact.proofs.Signs.{le_of_lt, le_or_lt}
+use Rattle.plan_exact.proofs.Signs.{le_of_lt, le_or_lt, lt_of_not_le}
 use Rattle.plan_spec.specs.Vector.{Vector, IsPoint, LeX, LtX, LtY, turn}
 use Rattle.plan_spec.specs.Segment.{Segment}
 use Rattle.plan_spec.specs.Polygon.{edges}
@@ -10,7 +10,6 @@ use Rattle.plan_spec.specs.Boundary.{IsLeft, StrictlyInside, IsUncovered, IsClea
 use Rattle.plan_spec.specs.Regions.{InCell}
 use Rattle.plan_plane.proofs.Near.{Near, near_pos, near_both, near_weaker, near_all, near_point, near_at}
 use Rattle.plan_plane.proofs.Rising.ByCoordinate.{order_x, order_y}
-use Rattle.plan_slab.proofs.Regions.StraightWays.{beyond}
 use Rattle.plan_ring.proofs.NearOrder.{near_neg, near_right, near_left, near_over, near_under}
 
 -- on the closed boundary of the cell, or in it
@@ -37,8 +36,8 @@ module _ (sums : List (List Vector)) (room : Frame) (l r : Vector) (s t : Segmen
   pub exposed : (z : Vector) → IsPoint room.low → IsPoint room.high → IsPoint z → OnRim l r s t z → IsUncovered sums room z
   exposed z hl hh hz rim = record {
     in_room = record {
-      wide = order_x.less room.low c room.high hl hc hh (beyond _ _ (λ h. off.in_room (inl h))) (beyond _ _ (λ h. off.in_room (inr (inl h))));
-      tall = order_y.less room.low c room.high hl hc hh (beyond _ _ (λ h. off.in_room (inr (inr (inl h))))) (beyond _ _ (λ h. off.in_room (inr (inr (inr h)))));
+      wide = order_x.less room.low c room.high hl hc hh (lt_of_not_le _ _ (λ h. off.in_room (inl h))) (lt_of_not_le _ _ (λ h. off.in_room (inr (inl h))));
+      tall = order_y.less room.low c room.high hl hc hh (lt_of_not_le _ _ (λ h. off.in_room (inr (inr (inl h))))) (lt_of_not_le _ _ (λ h. off.in_room (inr (inr (inr h)))));
       left = unless _ _ (λ h. not_near (λ p. LtX p room.low) z hz rim (λ p k o. o.in_room (inl (le_of_lt k))) (near_left room.low z c (inl h)));
       right = unless _ _ (λ h. not_near (LtX room.high) z hz rim (λ p k o. o.in_room (inr (inl (le_of_lt k)))) (near_right room.high z c (inl h)));
       below = unless _ _ (λ h. not_near (λ p. LtY p room.low) z hz rim (λ p k o. o.in_room (inr (inr (inl (le_of_lt k))))) (near_under room.low z c h));

@@ -7,7 +7,7 @@ use Rattle.plan_exact.specs.Formal as F
 use Rattle.plan_exact.specs.Formal.{A, B}
 use Rattle.plan_exact.proofs.Laws.{linear}
 use Rattle.plan_exact.proofs.Ring.{ring}
-use Rattle.plan_exact.proofs.Signs.{le_or_lt}
+use Rattle.plan_exact.proofs.Signs.{le_or_lt, lt_of_not_le}
 use Rattle.plan_exact.proofs.Vectors.{dot_opposite}
 use Rattle.plan_spec.specs.Vector.{Vector, LeX, LtX, LtY, turn}
 use Rattle.plan_spec.specs.Polygon.{OnOrLeft, Inside, edges}
@@ -16,7 +16,6 @@ use Rattle.plan_spec.specs.Boundary.{IsClearOf}
 use Rattle.plan_plane.proofs.Near.{Near, Grows, near_pos, near_both, near_weaker, near_all}
 use Rattle.plan_plane.proofs.Lists.{any_here, any_there}
 use Rattle.plan_plane.proofs.Segment.Between.{right_of, right_of_is}
-use Rattle.plan_slab.proofs.Regions.StraightWays.{beyond}
 
 -- positive at what is above r
 abbrev pub above_of : Vector → Vector
@@ -64,8 +63,8 @@ within room p ((l, r), (b, a)) (inr (inr (inr h))) = omega (arith, linear)
 clear_of_room : (room : Frame) (z d : Vector) → ¬ (OnOrBeyond room z) → Near z d (λ p. ¬ (OnOrBeyond room p))
 clear_of_room room z d clear =
     near_weaker _ (λ p. ¬ (OnOrBeyond room p)) (within room)
-    (near_both _ _ (near_both (LtX room.low) (λ p. LtX p room.high) (near_right room.low z d (inl (beyond _ _ (λ h. clear (inl h))))) (near_left room.high z d (inl (beyond _ _ (λ h. clear (inr (inl h)))))))
-    (near_both (LtY room.low) (λ p. LtY p room.high) (near_over room.low z d (beyond _ _ (λ h. clear (inr (inr (inl h)))))) (near_under room.high z d (beyond _ _ (λ h. clear (inr (inr (inr h))))))))
+    (near_both _ _ (near_both (LtX room.low) (λ p. LtX p room.high) (near_right room.low z d (inl (lt_of_not_le _ _ (λ h. clear (inl h))))) (near_left room.high z d (inl (lt_of_not_le _ _ (λ h. clear (inr (inl h)))))))
+    (near_both (LtY room.low) (λ p. LtY p room.high) (near_over room.low z d (lt_of_not_le _ _ (λ h. clear (inr (inr (inl h)))))) (near_under room.high z d (lt_of_not_le _ _ (λ h. clear (inr (inr (inr h))))))))
 
 -- what not all have, one lacks
 one_lacks : {X : Type 0} (P Q : X → Type 0) → ((x : X) → P x ⊎ Q x) → (xs : List X) → ¬ (All P xs) → Any Q xs

@@ -11,11 +11,12 @@ use Rattle.plan_spec.specs.Slabs.{Slabs, line_at, spans_of}
 use Rattle.plan_spec.specs.Regions.{Lot, cell, wall, Holds, region_at}
 use Rattle.plan_plane.proofs.Segment.ByX.{leX_ltX}
 use Rattle.plan_cross.proofs.ParityLaw.Xor.{xor_false}
+use Rattle.plan_poly.proofs.EvenOdd.Chains.{parity_append}
 use Rattle.plan_slab.specs.Decomposition.{IsDecomposition}
 use Rattle.plan_spec.specs.Neighbours.{beside}
 use Rattle.plan_spec.specs.Rings.{side, left_parts, right_parts, kept, ring}
 use Rattle.plan_ring.proofs.Closed.{IsWhole}
-use Rattle.plan_ring.proofs.Ends.{has, parity_append, parity_flat, over_rising}
+use Rattle.plan_ring.proofs.Ends.{has, parity_flat, over_rising}
 use Rattle.plan_map.proofs.Path.Places.{meets_at, met, meets_rise, above_from, below_from}
 use Rattle.plan_ring.proofs.Sides.{IsInSlab, IsBetween, closed_even, other_slab, own_slab}
 use Rattle.plan_ring.proofs.Sums.{xor_alike, xor_single, range_in}

@@ -11,7 +11,7 @@ use Rattle.plan_cross.specs.declared.segment.Segment.{Segment}
 use Rattle.plan_cross.specs.Segment.{segment_seen}
 use Rattle.plan_slab.proofs.Decomposition.{wall_number}
 use Rattle.plan_ring.specs.Grown.{IsLowestAt, HasAdded, closed_part}
-use Rattle.plan_ring.proofs.Added.{added_none, added_one, added_on}
+use Rattle.plan_ring.proofs.Added.{added_one, added_on}
 
 pub is_closed : (found : List Lot) (k j : ℕ) → ¬ (Contains found (wall k j)) → has_wall found k j ≡ false
 is_closed found k j off = by (has_wall found k j) refl
@@ -27,11 +27,6 @@ pub record HasParts (σ : Slabs) (found : List Lot) (k a b at : ℕ) (xs ys : Li
   pub added : HasAdded xs ys (closed_parts σ found k a (at - a))
 
 module _ (σ : Slabs) (found : List Lot) (k a b : ℕ) (xs : List Segment) where
-  pub no_parts : HasParts σ found k a b a xs xs
-  no_parts =
-      let e : 0 ≡ a - a = omega arith in
-      record { from = omega arith; to = omega arith; added = subst (λ n. HasAdded xs xs (closed_parts σ found k a n)) e (added_none xs) }
-
   pub next_part : (at : ℕ) (ys zs : List Segment) → at + 1 ≤ b → HasParts σ found k a b at xs ys → HasAdded ys zs (closed_part σ found k at) → HasParts σ found k a b (at + 1) xs zs
   next_part at ys zs less h more =
       let e : suc (at - a) ≡ at + 1 - a = omega (arith, h.from) in
@@ -41,11 +36,6 @@ module _ (σ : Slabs) (found : List Lot) (k a b : ℕ) (xs : List Segment) where
         to = omega (arith, h.from, less);
         added = subst (λ n. HasAdded xs zs (closed_parts σ found k a n)) e (added_on xs ys zs (closed_parts σ found k a (at - a)) (closed_part σ found k (a + (at - a))) h.added (subst (λ j. HasAdded ys zs (closed_part σ found k j)) f more));
       }
-
-  pub all_parts : (at : ℕ) (ys : List Segment) → b ≤ at → HasParts σ found k a b at xs ys → HasAdded xs ys (closed_parts σ found k a (b - a))
-  all_parts at ys past h =
-      let e : at - a ≡ b - a = omega (arith, past, h.from, h.to) in
-      subst (λ n. HasAdded xs ys (closed_parts σ found k a n)) e h.added
 
 -- ---- a cell, by the marks in which its spans meet its lines
 module _ (σ : Slabs) (found : List Lot) (k i h j : ℕ) (next_line : h ≡ suc k) (next_span : j ≡ suc i) where

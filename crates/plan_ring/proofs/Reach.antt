@@ -1,11 +1,12 @@
 -- Whether a walk joins two numbers is decided by a table: walks are put together at one number after another. So each number has its component.
-use Rattle.std.proofs.Common.{◌≡◌, ◌⊎◌, inl, inr, ⊎_elim, ℕ, zero, suc, ◌+◌, ◌<◌, Bool, true, false, ◌&&◌, ◌||◌, List, [], ◌∷◌, ◌++◌, AllPairs, Contains, get_or, eqb, refl, sym, ◌∙◌, subst, arith}
+use Rattle.std.proofs.Common.{◌≡◌, ◌⊎◌, inl, inr, ⊎_elim, ℕ, zero, suc, ◌+◌, ◌<◌, Bool, true, false, ◌&&◌, ◌||◌, List, [], ◌∷◌, AllPairs, Contains, get_or, eqb, refl, ◌∙◌, subst, arith}
 use Rattle.std.proofs.lemmas.Bool.{and_parts, and_from, or_left, or_right, or_cases, eqb-true, eq-eqb, cases_eq, cases_Bool}
 use Rattle.std.proofs.lemmas.List.FromFn.{length-range_with_len, get_or-range_with_len}
 use Rattle.std.proofs.lemmas.List.Kept.{AllPairs-filter}
 use Rattle.std.specs.List.{filter, range_with_len}
 use Rattle.plan_plane.proofs.Lists.{any_filter, any_unfilter}
 use Rattle.plan_spec.specs.Walks.{Leads, AreJoined, IsComponent}
+use Rattle.plan_map.proofs.Graph.Joined.{leads_of, joined_on}
 
 -- a walk leads from m to n whose numbers between the two are below k
 abbrev reach : (ℕ → ℕ → Bool) → ℕ → ℕ → ℕ → Bool
@@ -16,28 +17,13 @@ module _ (near : ℕ → ℕ → Bool) where
   abbrev Next : ℕ → ℕ → Type 0
   Next m n = near m n ≡ true
 
-  -- ---- walks put together
-  leads_on : (m n k : ℕ) (xs ys : List ℕ) → Leads Next n m xs → Leads Next k n ys → Leads Next k m (xs ++ ys)
-  leads_on m n k [] ys e rest = subst (λ n. Leads Next k n ys) (sym e) rest
-  leads_on m n k (x ∷ xs) ys (step, more) rest = (step, leads_on x n k xs ys more rest)
-
   joined_from : (m n : ℕ) (xs : List ℕ) → Leads Next n m xs → AreJoined Next m n
   joined_from m n xs leads = (m ∷ xs, (refl, leads))
-
-  joined_leads : (m n : ℕ) → AreJoined Next m n → (xs : List ℕ) × Leads Next n m xs
-  joined_leads m n ([], w) = absurd w
-  joined_leads m n (x ∷ xs, (e, leads)) = (xs, subst (λ m. Leads Next n m xs) e leads)
-
-  joined_on : (m n k : ℕ) → AreJoined Next m n → AreJoined Next n k → AreJoined Next m k
-  joined_on m n k p q =
-      let (xs, leads) = joined_leads m n p in
-      let (ys, rest) = joined_leads n k q in
-      joined_from m k (xs ++ ys) (leads_on m n k xs ys leads rest)
 
   -- ---- what the table says is so
   reached : (k m n : ℕ) → reach near k m n ≡ true → AreJoined Next m n
   reached zero m n h = ⊎_elim (λ e. joined_from m n [] (eqb-true m n e)) (λ step. joined_from m n (n ∷ []) (step, refl)) (or_cases (eqb m n) (near m n) h)
-  reached (suc k) m n h = ⊎_elim (reached k m n) (λ b. let p = and_parts _ _ b in joined_on m k n (reached k m k p.0) (reached k k n p.1)) (or_cases (reach near k m n) (reach near k m k && reach near k k n) h)
+  reached (suc k) m n h = ⊎_elim (reached k m n) (λ b. let p = and_parts _ _ b in joined_on Next m k n (reached k m k p.0) (reached k k n p.1)) (or_cases (reach near k m n) (reach near k m k && reach near k k n) h)
 
   -- ---- and all that is so it says
   by_way : (k m n : ℕ) → reach near k m k ≡ true → reach near k k n ≡ true → reach near (suc k) m n ≡ true
@@ -74,7 +60,7 @@ module _ (near : ℕ → ℕ → Bool) where
     reach_all m n (x ∷ xs) (step, rest) = together count m x n (bounded m x step).1 (at_once count m x (or_right (eqb m x) (near m x) step)) (reach_all x n xs rest)
 
     joined_true : (m n : ℕ) → AreJoined Next m n → reach near count m n ≡ true
-    joined_true m n j = let (xs, leads) = joined_leads m n j in reach_all m n xs leads
+    joined_true m n j = let (xs, leads) = leads_of Next m n j in reach_all m n xs leads
 
     pub joined_or_not : (m n : ℕ) → AreJoined Next m n ⊎ (¬ (AreJoined Next m n))
     joined_or_not m n = by (cases_Bool (reach near count m n))

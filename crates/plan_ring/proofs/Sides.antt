@@ -14,10 +14,10 @@ use Rattle.plan_plane.proofs.Rising.ByCoordinate.{order_x}
 use Rattle.plan_plane.proofs.Segment.ByX.{leX_trans, ltX_leX}
 use Rattle.plan_cross.proofs.ParityLaw.Tests.{over_right_of_a, over_past_both, over_before_both}
 use Rattle.plan_cross.proofs.ParityLaw.Xor.{xor_false}
+use Rattle.plan_poly.proofs.EvenOdd.Chains.{parity_append}
 use Rattle.plan_slab.specs.Decomposition.{IsDecomposition}
 use Rattle.plan_spec.specs.Rings.{has_wall, side, part, closed_parts}
-use Rattle.plan_ring.proofs.Closed.{climbs}
-use Rattle.plan_ring.proofs.Ends.{parity_append}
+use Rattle.plan_slab.proofs.NextTo.{climb}
 use Rattle.plan_ring.proofs.LowerSides.{lower_over, below_alike, above_alike}
 use Rattle.plan_map.proofs.Path.Places.{meets_at, lines_le, marks_le, one_x, met, met_point, on_span, meets_rise}
 
@@ -129,8 +129,8 @@ module _ {sums : List (List Vector)} {room : Frame} {σ : Slabs} {found : List L
         let zb = mark_after (suc k) (meets_at σ k (suc k) i) (omega arith) hk ri in
         lower_over (side σ k i).a (side σ k i).b (side σ k j).a (side σ k j).b z (first_point k i hk hi) (last_point k i hk hi) (first_point k j hk hj) (last_point k j hk hj)
         (one_x d.placed k (meets_at σ k k i) (meets_at σ k k j) h0 li lj) (one_x d.placed (suc k) (meets_at σ k (suc k) i) (meets_at σ k (suc k) j) hk ri rj) (side_runs k i hk hi)
-        (marks_le d.placed k (meets_at σ k k i) (meets_at σ k k j) h0 (climbs (meets_at σ k k) (length (spans_of σ k)) (λ n less. meets_rise d.order k k n (inl refl) less) i j le hj) lj)
-        (marks_le d.placed (suc k) (meets_at σ k (suc k) i) (meets_at σ k (suc k) j) hk (climbs (meets_at σ k (suc k)) (length (spans_of σ k)) (λ n less. meets_rise d.order k (suc k) n (inr refl) less) i j le hj) rj)
+        (marks_le d.placed k (meets_at σ k k i) (meets_at σ k k j) h0 (climb (meets_at σ k k) (length (spans_of σ k)) (λ n less. meets_rise d.order k k n (inl refl) less) i j le hj) lj)
+        (marks_le d.placed (suc k) (meets_at σ k (suc k) i) (meets_at σ k (suc k) j) hk (climb (meets_at σ k (suc k)) (length (spans_of σ k)) (λ n less. meets_rise d.order k (suc k) n (inr refl) less) i j le hj) rj)
         az (le_of_lt zb) below
 
     -- of the slab's sides exactly those above side i are over it

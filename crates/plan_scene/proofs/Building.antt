@@ -37,9 +37,6 @@ mapped_step f g xs i d s t u lt a b =
 one_more : {Y : Type 0} (f : Y → List Part) (ys : List Y) (y : Y) (s t u : Sums) → Adds (flat_map f ys) s t → Adds (f y) t u → Adds (flat_map f (ys ++ y ∷ [])) s u
 one_more f ys y s t u a b = subst (λ l. Adds l s u) (sym (flat_map-append f ys (y ∷ []) ∙ ap (λ l. flat_map f ys ++ l) (append-nil (f y)))) (adds_both a b)
 
-pub flat_step : {X : Type 0} (f : X → List Part) (xs : List X) (i : ℕ) (d : X) (s t u : Sums) → i < length xs → Adds (flat_map f (take i xs)) s t → Adds (f (get_or xs i d)) t u → Adds (flat_map f (take (i + 1) xs)) s u
-flat_step f xs i d s t u lt a b = subst (λ l. Adds (flat_map f l) s u) (sym (take_more xs i d lt)) (one_more f (take i xs) (get_or xs i d) s t u a b)
-
 pub flat_mapped_step : {X Y : Type 0} (f : Y → List Part) (g : X → Y) (xs : List X) (i : ℕ) (d : X) (s t u : Sums) → i < length xs → Adds (flat_map f (map g (take i xs))) s t → Adds (f (g (get_or xs i d))) t u → Adds (flat_map f (map g (take (i + 1) xs))) s u
 flat_mapped_step f g xs i d s t u lt a b =
     subst (λ l. Adds (flat_map f l) s u) (sym (ap (map g) (take_more xs i d lt) ∙ map-append g (take i xs) (get_or xs i d ∷ []))) (one_more f (map g (take i xs)) (g (get_or xs i d)) s t u a b)

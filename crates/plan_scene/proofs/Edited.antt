@@ -11,10 +11,10 @@ use Rattle.plan_scene.specs.Edits.{IsId, sums_with}
 use Rattle.plan_scene.proofs.Filtered.{less_from, sum_more, parted_length, parted_sum}
 use Rattle.plan_scene.proofs.Pairs.{pairs_joined}
 
-lesser_than : (id : ℕ) (os : List Obstacle) → All (λ o. o.id < id) (filter (is_lesser id) os)
+pub lesser_than : (id : ℕ) (os : List Obstacle) → All (λ o. o.id < id) (filter (is_lesser id) os)
 lesser_than id os = All-weaker (λ o. is_lesser id o ≡ true) (λ o. o.id < id) (λ o e. less_from o.id id e) (filter (is_lesser id) os) (filter_passes (is_lesser id) os)
 
-greater_than : (id : ℕ) (os : List Obstacle) → All (λ o. id < o.id) (filter (is_greater id) os)
+pub greater_than : (id : ℕ) (os : List Obstacle) → All (λ o. id < o.id) (filter (is_greater id) os)
 greater_than id os = All-weaker (λ o. is_greater id o ≡ true) (λ o. id < o.id) (λ o e. less_from id o.id e) (filter (is_greater id) os) (filter_passes (is_greater id) os)
 
 sum_joined : (f : Obstacle → ℕ) (xs ys : List Obstacle) → sum (map f (xs ++ ys)) ≡ sum (map f xs) + sum (map f ys)

@@ -3,8 +3,8 @@ pub mod Meeting
 pub mod Number
 mod Building
 mod Past
-mod Filtered
-mod Edited
-mod Read
+pub mod Filtered
+pub mod Edited
+pub mod Read
 pub mod Kept
 mod Rooms

@@ -24,6 +24,7 @@ impl Model for Obstacle {
 }
 
 impl Obstacle {
+    /// The obstacle of this id and this shape.
     pub fn of(alloc: Global, id: u32, shape: Shape) -> Result<Obstacle, AllocError>
         ensures { IfOk result (λ o. o ≡ obstacle id shape) }
     {
@@ -31,12 +32,14 @@ impl Obstacle {
         Ok(Obstacle { id, shape })
     }
 
+    /// The id.
     pub fn id(&self) -> u32
         ensures { result ≡ self.now.id }
     {
         self.id
     }
 
+    /// The shape.
     pub fn shape(&self) -> &Shape
         ensures { result.now ≡ self.now.spots }
     {

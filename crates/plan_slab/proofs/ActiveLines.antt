@@ -5,14 +5,14 @@ use Rattle.std.proofs.lemmas.List.Elements.{All-nil, All-contains}
 use Rattle.plan_spec.specs.Vector.{Vector, IsPoint, LeX}
 use Rattle.plan_spec.specs.Frame.{Frame}
 use Rattle.plan_spec.specs.Pieces.{Piece, piece}
-use Rattle.plan_spec.specs.Slabs.{piece_at, nothing}
+use Rattle.plan_spec.specs.Slabs.{piece_at}
 use Rattle.plan_plane.proofs.Segment.ByX.{leX_trans}
 use Rattle.plan_grid.specs.Fraction.{Fraction}
 use Rattle.plan_slab.specs.declared.bar.Bar.{Bar}
 use Rattle.plan_slab.specs.Bars.{IsBar, AreBars}
 use Rattle.plan_slab.specs.Seen.{line_seen}
 use Rattle.plan_slab.specs.Sweeps.{BeginsBy, LastsTo, AreActive, AreEntered, AreKept, AreAcross}
-use Rattle.plan_slab.proofs.Pieces.{IsPiece, HasPieces}
+use Rattle.plan_slab.proofs.Pieces.{IsPiece, HasPieces, bar_piece}
 
 -- the first n bars begin by the line
 abbrev pub HaveBegun : List Bar → ℕ → Fraction → Type 0
@@ -28,11 +28,8 @@ module _ {sums : List (List Vector)} {room : Frame} {pieces : List Piece} (known
   pub is_bar : (b : Bar) → Contains bars b → IsBar sums room pieces b
   is_bar b has = All-contains (IsBar sums room pieces) bars b are.each has
 
-  pub is_piece : (b : Bar) → IsBar sums room pieces b → IsPiece sums room b.piece
-  is_piece b h = subst (IsPiece sums room) (sym h.is) (known.each b.number (piece 0 nothing) h.within)
-
   piece_of : (k : ℕ) (d : Bar) → k < length bars → IsPiece sums room (get_or bars k d).piece
-  piece_of k d within = is_piece (get_or bars k d) (are.each k d within)
+  piece_of k d within = bar_piece known (get_or bars k d) (are.each k d within)
 
   -- those that begin by a line begin by each on its right
   later_line : (p l : Fraction) → IsPoint (line_seen p) → IsPoint (line_seen l) → LeX (line_seen p) (line_seen l) → (b : Bar) → IsPiece sums room b.piece → BeginsBy p b → BeginsBy l b
@@ -62,7 +59,7 @@ module _ {sums : List (List Vector)} {room : Frame} {pieces : List Piece} (known
     -- what is held after the bars that begin by the line were added
     held : (b : Bar) → Contains ys b → Contains bars b × BeginsBy l b
     held b has = ⊎_elim
-        (λ old. let a = All-contains (λ b. Contains bars b × BeginsBy p b × LastsTo l b) xs b active.each old in (a.0, later_line p l hp hl le b (is_piece b (is_bar b a.0)) a.1))
+        (λ old. let a = All-contains (λ b. Contains bars b × BeginsBy p b × LastsTo l b) xs b active.each old in (a.0, later_line p l hp hl le b (bar_piece known b (is_bar b a.0)) a.1))
         (λ new. new)
         (All-contains (λ b. Contains xs b ⊎ (Contains bars b × BeginsBy l b)) ys b entered.each has)
 

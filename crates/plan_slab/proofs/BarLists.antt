@@ -1,5 +1,5 @@
 -- The bars of all pieces, and that a sort puts them in the order of where they begin.
-use Rattle.std.proofs.Common.{◌≡◌, ⊎_elim, ℕ, ◌+◌, ◌<◌, ◌*ℤ◌, ◌≤ℤ◌, ℤ, false, refl, sym, subst, ◌∙◌, List, [], ◌∷◌, ◌++◌, get_or, length, All, Any, arith}
+use Rattle.std.proofs.Common.{◌≡◌, ⊎_elim, ℕ, ◌+◌, ◌<◌, ◌*ℤ◌, ℤ, false, refl, sym, subst, ◌∙◌, List, [], ◌∷◌, ◌++◌, get_or, length, All, Any, arith}
 use Rattle.std.specs.List.Sorted.{IsPermutation, IsSortedByKey}
 use Rattle.std.specs.Ordering.{is_lt, ordering_then}
 use Rattle.std.specs.declared.cmp.Ordering.{Ordering}
@@ -16,8 +16,8 @@ use Rattle.plan_spec.specs.Slabs.{piece_at, nothing}
 use Rattle.plan_plane.proofs.Lists.{any_left, any_right, any_here}
 use Rattle.plan_grid.specs.Fraction.{fraction_cmp}
 use Rattle.plan_grid.specs.FractionOrder.{fraction_cmp_ranked}
-use Rattle.plan_grid.specs.Order.{IsOrder}
 use Rattle.plan_grid.specs.PointOrder.{x_of, y_of, point_cmp, point_cmp_total}
+use Rattle.plan_grid.proofs.Signs.{not_less}
 use Rattle.plan_slab.specs.declared.bar.Bar.{Bar}
 use Rattle.plan_slab.specs.Bars.{IsBar, IsOnEdge, AreBars}
 use Rattle.plan_slab.proofs.XValues.{order_nat}
@@ -39,11 +39,6 @@ one_bar_more sums room pieces i bars b h within e is on = record {
 -- ---- sorted
 abbrev pub begins : Bar → Vector
 begins b = b.piece.part.a
-
-not_less : (o : Ordering) (a b : ℤ) → IsOrder o a b → is_lt o ≡ false → b ≤ℤ a
-not_less Less a b h e = absurd (cc)
-not_less Equal a b h e = omega (arith, linear)
-not_less Greater a b h e = omega (arith, linear)
 
 pub first_not_less : (o r : Ordering) → is_lt (ordering_then o r) ≡ false → is_lt o ≡ false
 first_not_less Less r e = e

@@ -20,7 +20,7 @@ use Rattle.plan_slab.specs.Heights.{IsOver, IsHeight}
 use Rattle.plan_slab.specs.Seen.{strand_seen}
 
 -- a sum of two products
-two_products : (a b c d : ℤ) → unsigned_abs (a *ℤ b +ℤ c *ℤ d) ≤ unsigned_abs a * unsigned_abs b + unsigned_abs c * unsigned_abs d
+pub two_products : (a b c d : ℤ) → unsigned_abs (a *ℤ b +ℤ c *ℤ d) ≤ unsigned_abs a * unsigned_abs b + unsigned_abs c * unsigned_abs d
 two_products a b c d = omega (arith, ints, unsigned_abs-mul a b, unsigned_abs-mul c d)
 
 twice : (a : ℤ) → unsigned_abs (pos 2 *ℤ a) ≡ 2 * unsigned_abs a

@@ -1,5 +1,5 @@
 -- A mark is an end of a piece, or where an edge between spots meets the line: so its denominator divides that of the line times a small factor.
-use Rattle.std.proofs.Common.{◌≡◌, inl, inr, ℕ, zero, suc, ◌*◌, ◌/◌, ◌<◌, ◌≤◌, ◌^◌, ℤ, pos, ◌-ℤ◌, ◌*ℤ◌, ◌<ℤ◌, List, [], ◌∷◌, length, get_or, All, refl, sym, ap, ◌∙◌, subst, unsigned_abs, arith}
+use Rattle.std.proofs.Common.{◌≡◌, inl, inr, ℕ, zero, suc, ◌*◌, ◌/◌, ◌<◌, ◌≤◌, ◌^◌, ℤ, pos, ◌-ℤ◌, ◌*ℤ◌, ◌<ℤ◌, List, [], ◌∷◌, length, get_or, All, refl, sym, ap, subst, unsigned_abs, arith}
 use Rattle.std.specs.Int.{◌∣◌}
 use Rattle.std.specs.List.{flat_map}
 use Rattle.std.proofs.Math.Nat.{div-mul_cancel}
@@ -11,7 +11,7 @@ use Rattle.plan_exact.specs.Formal as F
 use Rattle.plan_exact.specs.Formal.{A, B, C, D}
 use Rattle.plan_exact.specs.Vectors.{env}
 use Rattle.plan_exact.proofs.Certificates.{eq_from}
-use Rattle.plan_exact.proofs.Laws.{linear, mul_comm, mul_assoc}
+use Rattle.plan_exact.proofs.Laws.{linear}
 use Rattle.plan_exact.proofs.Signs.{mul_pos}
 use Rattle.plan_spec.specs.Vector.{Vector, IsPoint, LtX, SameX, Same, turn}
 use Rattle.plan_spec.specs.Segment.{Segment, HasPoints, On}
@@ -32,6 +32,7 @@ use Rattle.plan_grid.specs.declared.frame.Frame.{Frame}
 use Rattle.plan_grid.specs.declared.spot.Spot.{Spot}
 use Rattle.plan_grid.proofs.Unique.{den_divides}
 use Rattle.plan_convex.specs.Piece.{IsPieceInRange, sums_seen}
+use Rattle.plan_convex.proofs.Distances.{run_bounded}
 use Rattle.plan_slab.specs.declared.strand.Strand.{Strand}
 use Rattle.plan_slab.specs.EventLines.{IsLine}
 use Rattle.plan_slab.specs.FreeLots.{AreRows}
@@ -39,6 +40,7 @@ use Rattle.plan_slab.specs.Heights.{IsHeight, IsHeightOn}
 use Rattle.plan_slab.specs.Laws.{AreSlabsOf}
 use Rattle.plan_slab.specs.Seen.{line_seen, marks_seen}
 use Rattle.plan_slab.specs.SlabsSeen.{slabs_seen}
+use Rattle.plan_slab.proofs.FreeLots.{mark_same_x}
 use Rattle.plan_slab.proofs.Pieces.{IsPiece, has_pieces}
 use Rattle.plan_slab.proofs.SlabsSeen.{rows_at}
 use Rattle.plan_slab.proofs.SweptRows.{rows_count}
@@ -120,9 +122,6 @@ module _ (l m : Fraction) (hl : IsLine l) (hm : IsHeight m) where
     small = inl (run_bounded a.x b.x ha.x hb.x);
   }
     where
-      run_bounded : (p q : ℤ) → unsigned_abs p ≤ 2046 → unsigned_abs q ≤ 2046 → unsigned_abs (q -ℤ p) ≤ 4092
-      run_bounded p q h k = omega (arith, ints)
-
       zero_run : (p q : ℤ) → unsigned_abs (q -ℤ p) ≡ 0 → p ≡ q
       zero_run p q e = omega (arith, ints)
 
@@ -161,9 +160,6 @@ mark_height sums room l m p hl hm piece range short hz (inr (inr (lt, on))) =
 mark_point : (l m : Fraction) → IsLine l → IsHeight m → IsPoint (point_at l m)
 mark_point l m hl hm = mul_pos {a = l.den} {b = m.den} (omega (arith, linear, hl.ratio.positive)) (omega (arith, linear, hm.ratio.positive))
 
-mark_on_line : (l m : Fraction) → SameX (line_seen l) (point_at l m)
-mark_on_line l m = ap (λ z. l.num *ℤ z) (mul_comm l.den m.den) ∙ sym (mul_assoc l.num m.den l.den)
-
 -- ---- all marks
 pub heights_on : (sums : List (List Spot)) (room : Frame) (pieces : List Piece) (lines : List Fraction) (spans : List (List Strand)) (marks : List (List Fraction))
     → AreSlabsOf (sums_seen sums) (frame_seen room) pieces (slabs_seen lines spans marks) → AreRows lines spans marks → All IsPieceInRange pieces → All (All (IsWithin MOST_COORDINATE)) sums → IsWithin MOST_COORDINATE room.low → IsWithin MOST_COORDINATE room.high
@@ -197,7 +193,7 @@ heights_on sums room pieces lines spans marks are rows ranges within low high k 
         let hm : IsHeight m = heights j c less in
         let z = point_at l m in
         let hz : IsPoint (point_at l m) = mark_point l m hl hm in
-        let (n, p, below, is, mark) = (marked.exact z hz (mark_on_line l m)).1 (j, z, omega (arith, less, length-map ms (point_at l)), get_or-map (point_at l) ms j c z less, (refl, refl)) in
+        let (n, p, below, is, mark) = (marked.exact z hz (mark_same_x l m)).1 (j, z, omega (arith, less, length-map ms (point_at l)), get_or-map (point_at l) ms j c z less, (refl, refl)) in
         let piece = subst (IsPiece (sums_seen sums) (frame_seen room)) is ((has_pieces are.floor are.bound).each n p below) in
         let range = subst IsPieceInRange is (ranges n p below) in
         mark_height (sums_seen sums) (frame_seen room) l m p hl hm piece range (All-contains IsShort (boundary (sums_seen sums) (frame_seen room)) (edge_of (sums_seen sums) (frame_seen room) p) (boundary_short sums room within low high) piece.is_edge) hz mark

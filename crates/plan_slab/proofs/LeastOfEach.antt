@@ -1,5 +1,5 @@
 -- Of rungs that are sorted by level, then by number, the first of each level has the least number.
-use Rattle.std.proofs.Common.{◌≡◌, ℕ, ◌<◌, ◌≤◌, ◌*ℤ◌, Bool, true, false, nat_cmp, refl, sym, subst, List, get_or, All, Any, AllPairs, arith}
+use Rattle.std.proofs.Common.{◌≡◌, ℕ, ◌<◌, ◌≤◌, Bool, true, false, nat_cmp, refl, sym, List, get_or, All, Any, AllPairs, arith}
 use Rattle.std.specs.Cmp.{IsTotalOrder}
 use Rattle.std.specs.List.{dedup}
 use Rattle.std.specs.List.Sorted.{IsSorted, IsSortedByKey, IsPermutation, IsStrictlySortedBy}
@@ -12,13 +12,12 @@ use Rattle.std.proofs.lemmas.List.Filters.{All-dedup}
 use Rattle.std.proofs.lemmas.List.Sorted.{All-permutation, Contains-permutation, IsPermutation-sym, sorted_far, ranks_by}
 use Rattle.std.proofs.lemmas.Map.Keys.{Less-from_sorted}
 use Rattle.plan_grid.specs.Fraction.{Fraction, SameValue, fraction_cmp, fraction_eq}
-use Rattle.plan_grid.specs.FractionOrder.{fraction_cmp_total, fraction_cmp_ranked}
-use Rattle.plan_grid.specs.Order.{IsOrder}
-use Rattle.plan_convex.specs.Parameter as P
+use Rattle.plan_grid.specs.FractionOrder.{fraction_cmp_total}
 use Rattle.plan_slab.specs.declared.rungs.Rung.{Rung}
 use Rattle.plan_slab.specs.Heights.{IsLevel}
 use Rattle.plan_slab.specs.Rungs.{AreLeastOf}
 use Rattle.plan_slab.proofs.BarLists.{first_not_less}
+use Rattle.plan_slab.proofs.RisingValues.{less_value, same_value}
 use Rattle.plan_slab.proofs.Sorted.FirstOfEach.{first_of_each}
 
 abbrev pub key : Rung → Fraction × ℕ
@@ -51,21 +50,10 @@ second_not_less Equal m n h e = by (nat_cmp m n) (ranked m n (nat_cmp m n) refl)
     by Equal k f = omega (arith, k)
     by Greater k f = omega (arith, k)
 
-less_level : (f g : Fraction) → IsLevel f → IsLevel g → fraction_cmp f g ≡ Less → P.Less f g
-less_level f g hf hg e = subst (λ o. IsOrder o (f.num *ℤ g.den) (g.num *ℤ f.den)) e (fraction_cmp_ranked f g hf.positive hg.positive)
-
-level_same : (f g : Fraction) → IsLevel f → IsLevel g → fraction_eq f g ≡ true → SameValue f g
-level_same f g hf hg e = by (fraction_cmp f g) (fraction_cmp_ranked f g hf.positive hg.positive) e
-  where
-    by : (o : Ordering) → IsOrder o (f.num *ℤ g.den) (g.num *ℤ f.den) → is_eq o ≡ true → SameValue f g
-    by Equal h e = h
-    by Less h e = absurd (cc)
-    by Greater h e = absurd (cc)
-
 pub least_of : (gs ys : List Rung) → All (λ g. IsLevel g.level) gs → IsPermutation gs ys → IsSortedByKey key key_cmp ys → AreLeastOf gs (dedup same_level ys)
 least_of gs ys levels perm sorted = record {
   each = λ h has. Contains-permutation ys gs h (IsPermutation-sym gs ys perm) (Contains-from_dedup same_level ys h has);
-  rising = λ i j d less within. less_level (get_or (dedup same_level ys) i d).level (get_or (dedup same_level ys) j d).level (kept i d (omega (arith, less, within))) (kept j d within) (Less-from_sorted level_cmp (dedup same_level ys) i j d strictly less within);
+  rising = λ i j d less within. less_value (get_or (dedup same_level ys) i d).level (get_or (dedup same_level ys) j d).level (kept i d (omega (arith, less, within))).positive (kept j d within).positive (Less-from_sorted level_cmp (dedup same_level ys) i j d strictly less within);
   all = All-permutation (λ g. Any (λ h. Stands h g) (dedup same_level ys)) ys gs (IsPermutation-sym gs ys perm) (first_of_each same_level Stands (λ g. (omega arith, refl)) ys stands);
 }
   where
@@ -86,5 +74,5 @@ least_of gs ys levels perm sorted = record {
         let g = get_or ys i d in
         let h = get_or ys j d in (
           second_not_less (fraction_cmp h.level g.level) h.number g.number (sorted_far (λ x y. is_lt (key_cmp (key x) (key y))) (ranks_by key_cmp_total key) ys sorted i j d (omega (arith, less)) within) e,
-          sym (level_same h.level g.level (there j d within) (there i d (omega (arith, less, within))) e),
+          sym (same_value h.level g.level (there j d within).positive (there i d (omega (arith, less, within))).positive e),
         )

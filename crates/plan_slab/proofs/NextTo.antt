@@ -1,5 +1,5 @@
 -- The neighbours of a cell or a wall have keys in one range.
-use Rattle.std.proofs.Common.{◌≡◌, ◌↔◌, inl, inr, ℕ, suc, ◌+◌, ◌-◌, ◌<◌, ◌≤◌, Bool, true, false, ◌||◌, ◌&&◌, eqb, leb, leb-true, leb-false, ltb-true, List, [], length, get_or, All, refl, sym, ap, ◌∙◌, subst, ◌⊎◌, ⊎_elim, zero, eq-or-lt_of_le, arith}
+use Rattle.std.proofs.Common.{◌≡◌, ◌↔◌, inl, inr, ℕ, suc, ◌+◌, ◌-◌, ◌<◌, ◌≤◌, Bool, true, false, ◌||◌, ◌&&◌, eqb, leb, leb-true, leb-false, ltb-true, List, [], length, get_or, All, refl, sym, ap, ◌∙◌, subst, ⊎_elim, zero, eq-or-lt_of_le, arith}
 use Rattle.std.specs.List.Sorted.{IsNonDecreasingBy, IsPartitionPoint}
 use Rattle.std.proofs.lemmas.Bool.{and_parts, and_from, eq-eqb, eqb-true, le-leb, lt-ltb, cases_lt}
 use Rattle.plan_spec.specs.Slabs.{Slabs, spans_of, span_at, marks_of}
@@ -92,7 +92,7 @@ past_of value row limit n bound p = record {
 }
 
 -- ---- what never falls from one to the next
-climb : (f : ℕ → ℕ) (n : ℕ) → ((i : ℕ) → suc i < n → f i ≤ f (suc i)) → (i j : ℕ) → i ≤ j → j < n → f i ≤ f j
+pub climb : (f : ℕ → ℕ) (n : ℕ) → ((i : ℕ) → suc i < n → f i ≤ f (suc i)) → (i j : ℕ) → i ≤ j → j < n → f i ≤ f j
 climb f n step i zero le within = let e : i ≡ 0 = omega arith in omega (arith, ap f e)
 climb f n step i (suc j) le within = ⊎_elim (λ e. omega (arith, ap f e)) (λ lt. omega (arith, climb f n step i j (omega arith) (omega arith), step j within)) (eq-or-lt_of_le le)
 
@@ -190,24 +190,6 @@ module _ {σ : Slabs} {found : List Lot} {table : List (List (ℕ × ℕ))} (h :
                 λ e. let t = and_parts _ _ e in let f = eqb-true line (suc n) t.0 in let g : n ≡ k = omega (arith, f, next) in keys.0 (and_from _ _ (eq-eqb n k g) ((right_range past n i g is.1).0 t.1)),
                 λ q. let (f, r) = and_parts _ _ (keys.1 q) in let g = eqb-true n k f in and_from _ _ (eq-eqb line (suc n) (omega (arith, g, next))) ((right_range past n i g is.1).1 r),
               )
-
-  -- ---- lines beside which there is no slab
-  none_of : (test : Lot → Bool) → ((lot : Lot) → IsLot σ lot → ¬ (test lot ≡ true)) → (n : ℕ) → ((0 ≤ n) × (n < 0)) ↔ ((n < length found) × (test (region_at found n) ≡ true))
-  none_of test off n = (λ r. absurd (omega (arith, r.1)), λ t. absurd (off (region_at found n) (h.lots n (cell 0 0) t.0) t.1))
-
-  pub none_on_right : (k j : ℕ) → length table ≤ k → AreInLeftOf σ found (wall k j) 0 0
-  none_on_right k j past = none_of (in_left σ (wall k j)) off
-    where
-      off : (lot : Lot) → IsLot σ lot → ¬ (in_left σ (wall k j) lot ≡ true)
-      off (wall n i) is e = absurd (cc)
-      off (cell n i) is e = omega (arith, eqb-true k n (and_parts _ _ e).0, is.0, h.ends.slab_count)
-
-  pub none_on_left : (k j : ℕ) → (k ≡ 0) ⊎ (length table < k) → AreInRightOf σ found (wall k j) 0 0
-  none_on_left k j past = none_of (in_right σ (wall k j)) off
-    where
-      off : (lot : Lot) → IsLot σ lot → ¬ (in_right σ (wall k j) lot ≡ true)
-      off (wall n i) is e = absurd (cc)
-      off (cell n i) is e = ⊎_elim (λ z. omega (arith, eqb-true k (suc n) (and_parts _ _ e).0, z)) (λ m. omega (arith, eqb-true k (suc n) (and_parts _ _ e).0, is.0, h.ends.slab_count, m)) past
 
 -- ---- both sides of a wall
 pub wall_row : (σ : Slabs) (found : List Lot) (k j : ℕ) (row : Row) → AreInRightOf σ found (wall k j) row.left.start row.left.end → AreInLeftOf σ found (wall k j) row.right.start row.right.end → IsRowOf σ found (wall k j) row

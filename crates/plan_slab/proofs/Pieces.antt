@@ -17,6 +17,8 @@ use Rattle.plan_plane.proofs.Segment.Between.{between_first, between_second}
 use Rattle.plan_plane.proofs.Segment.Same.{on_same, Same-swapped}
 use Rattle.plan_plane.proofs.Segment.ByX.{leX_trans}
 use Rattle.plan_plane.proofs.Segment.Part.{on_part_of}
+use Rattle.plan_slab.specs.declared.bar.Bar.{Bar}
+use Rattle.plan_slab.specs.Bars.{IsBar}
 
 -- a piece is a part of its edge, and uncovered throughout
 pub record IsPiece (sums : List (List Vector)) (room : Frame) (p : Piece) : Type 0 where
@@ -96,3 +98,7 @@ pub mark_on : (p : Piece) (m : Vector) → HasPoints p.part → IsPoint m → Is
 mark_on p m hp hm (inl same) = on_same p.part.a p.part.b p.part.a m hp.0 hp.1 hp.0 hm (Same-swapped m p.part.a same) (between.on (between_first p.part.a p.part.b hp.0))
 mark_on p m hp hm (inr (inl same)) = on_same p.part.a p.part.b p.part.b m hp.0 hp.1 hp.1 hm (Same-swapped m p.part.b same) (between.on (between_second p.part.a p.part.b hp.1))
 mark_on p m hp hm (inr (inr h)) = h.1
+
+-- the piece of a bar is one of them
+pub bar_piece : {sums : List (List Vector)} {room : Frame} {pieces : List Piece} → HasPieces sums room pieces → (b : Bar) → IsBar sums room pieces b → IsPiece sums room b.piece
+bar_piece {sums} {room} known b h = subst (IsPiece sums room) (sym h.is) (known.each b.number (piece 0 nothing) h.within)

@@ -24,7 +24,7 @@ use Rattle.plan_slab.specs.Heights.{IsHeight}
 use Rattle.plan_slab.specs.LineMarks.{IsUpright, AreHeightsOf, both, one, AreHeightsAt}
 use Rattle.plan_slab.specs.Seen.{line_seen, marks_seen}
 use Rattle.plan_slab.specs.Sweeps.{BeginsBy, LastsTo}
-use Rattle.plan_slab.proofs.Pieces.{IsPiece, HasPieces}
+use Rattle.plan_slab.proofs.Pieces.{IsPiece, HasPieces, bar_piece}
 use Rattle.plan_slab.proofs.Sorted.Heights.{OnLine, PieceMarks, upright, outside}
 use Rattle.plan_slab.proofs.Sorted.Marks.{marks_from, on_edge}
 
@@ -61,9 +61,6 @@ paired_points l (b ∷ bs) [] h = absurd h
 paired_points l (b ∷ bs) (fs ∷ fss) h = ap (λ ys. marks_seen l fs ++ ys) (paired_points l bs fss h.1) ∙ sym (map-append (point_at l) fs (flat_map (λ fs. fs) fss))
 
 -- ---- points of the line
-swap : (a b c : ℤ) → (a *ℤ b) *ℤ c ≡ (a *ℤ c) *ℤ b
-swap a b c = mul_assoc a b c ∙ ap (λ z. a *ℤ z) (mul_comm b c) ∙ sym (mul_assoc a c b)
-
 on_line_point : (l f : Fraction) → IsLine l → IsRatio f → OnLine (line_seen l) (point_at l f)
 on_line_point l f hl hf = (mul_pos {a = l.den} {b = f.den} (omega (arith, linear, hl.ratio.positive)) (omega (arith, linear, hf.positive)), ap (λ z. l.num *ℤ z) (mul_comm l.den f.den) ∙ sym (mul_assoc l.num f.den l.den))
 
@@ -89,21 +86,15 @@ point_same l f g h = (
 module _ {sums : List (List Vector)} {room : Frame} {pieces : List Piece} (known : HasPieces sums room pieces) (l : Fraction) (hl : IsLine l) (bars : List Bar)
     (meets : All (λ b. IsBar sums room pieces b × BeginsBy l b × LastsTo l b) bars)
     (every : (n : ℕ) → n < length pieces → LeX (piece_at pieces n).part.a (line_seen l) → LeX (line_seen l) (piece_at pieces n).part.b → Any (λ b. b.number ≡ n) bars) where
-  abbrev line : Vector
-  line = line_seen l
-
   line_point : IsPoint (line_seen l)
   line_point = omega (arith, linear, hl.ratio.positive)
-
-  is_piece : (b : Bar) → IsBar sums room pieces b → IsPiece sums room b.piece
-  is_piece b h = subst (IsPiece sums room) (sym h.is) (known.each b.number (piece 0 nothing) h.within)
 
   -- the marks of one bar
   of_bar : (b : Bar) (fs : List Fraction) → All IsHeight fs → IsBar sums room pieces b × BeginsBy l b × LastsTo l b → AreHeightsOf l b fs → PieceMarks (line_seen l) b.piece (marks_seen l fs)
   of_bar b fs hf (bar, begins, lasts) are = by are hf
     where
       p : IsPiece sums room b.piece
-      p = is_piece b bar
+      p = bar_piece known b bar
 
       rises : ¬ (IsUpright b) → LtX b.piece.part.a b.piece.part.b
       rises off = ⊎_elim (λ le. absurd (not_left le)) (λ lt. lt) (le_or_lt (b.piece.part.b.x *ℤ b.piece.part.a.w) (b.piece.part.a.x *ℤ b.piece.part.b.w))

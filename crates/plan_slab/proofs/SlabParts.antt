@@ -13,7 +13,7 @@ use Rattle.plan_spec.specs.Boundary.{IsClearOf}
 use Rattle.plan_spec.specs.Pieces.{Piece, IsBoundaryOf}
 use Rattle.plan_spec.specs.Slabs.{Slabs, AreSlabs, spans_of, marks_of, size}
 use Rattle.plan_spec.specs.Regions as spec
-use Rattle.plan_spec.specs.Regions.{Kept, none, keep, drop, cell, IsLot, spot_of, cells, walls, lots, AreRegions, region_at}
+use Rattle.plan_spec.specs.Regions.{Kept, none, keep, drop, cell, IsLot, spot_of, cells, walls, lots, AreRegions}
 use Rattle.plan_plane.proofs.Boundary.Floor.{IsFloor}
 use Rattle.plan_plane.proofs.Boundary.Sum.{IsSum}
 use Rattle.plan_plane.proofs.Pairs.{pairs_at}

@@ -18,11 +18,11 @@ use Rattle.plan_slab.specs.LineMarks.{Meets}
 use Rattle.plan_slab.specs.Seen.{line_seen, marks_seen, strand_seen}
 use Rattle.plan_slab.specs.SlabsSeen.{slabs_seen}
 use Rattle.plan_slab.specs.Sweeps.{BeginsBy, AreActive, AreEntered, AreKept, AreAcross, AreTooMany}
-use Rattle.plan_slab.proofs.ActiveLines.{none_active, none_begun, is_bar, is_piece, entered_active, entered_begun, none_later, kept_active, active_across}
+use Rattle.plan_slab.proofs.ActiveLines.{none_active, none_begun, is_bar, entered_active, entered_begun, none_later, kept_active, active_across}
 use Rattle.plan_slab.proofs.BarRanges.{bar_meets, bar_over}
 use Rattle.plan_slab.proofs.LinesSeen.{is_line}
 use Rattle.plan_slab.proofs.Order.Across.{IsSlab}
-use Rattle.plan_slab.proofs.Pieces.{HasPieces}
+use Rattle.plan_slab.proofs.Pieces.{HasPieces, bar_piece}
 use Rattle.plan_slab.proofs.Sorted.Grown.{all_found, too_many}
 use Rattle.plan_slab.proofs.SweptRows.{IsHeld, IsAtLine, AreSwept, marks_added, spans_added, size_marks, size_spans, rows_count}
 use Rattle.plan_slab.proofs.XValues.{line_point}
@@ -48,7 +48,7 @@ module _ {sums : List (List Vector)} {room : Frame} {pieces : List Piece} (known
   all_meet n l active h k d within =
       let a = h.across.each k d within in
       let bar = is_bar known bars are (get_or active k d) a.0 in
-      bar_meets (get_or active k d) bar (is_piece known bars are (get_or active k d) bar) l h.point a.1 a.2
+      bar_meets (get_or active k d) bar (bar_piece known (get_or active k d) bar) l h.point a.1 a.2
 
   pub across_line : (n : ℕ) (l : Fraction) (active : List Bar) → IsAtLine bars n l active → AreAcross sums room pieces l l active
   across_line n l active h = active_across known bars are n l l active h.across h.later
@@ -62,7 +62,7 @@ module _ {sums : List (List Vector)} {room : Frame} {pieces : List Piece} (known
     all_over k d within =
         let a = active.each k d within in
         let bar = is_bar known bars are (get_or ys k d) a.0 in
-        bar_over (get_or ys k d) bar (is_piece known bars are (get_or ys k d) bar) l r slab a.1 a.2
+        bar_over (get_or ys k d) bar (bar_piece known (get_or ys k d) bar) l r slab a.1 a.2
 
     pub across_slab : AreAcross sums room pieces l r ys
     across_slab = active_across known bars are n l r ys active h.later

@@ -1,8 +1,8 @@
 -- An accepted edit makes one obstacle more or one less.
-use Rattle.std.proofs.Common.{◌≡◌, ◌⊎◌, inl, inr, ℕ, suc, ◌+◌, ◌-◌, ◌<◌, ◌≤◌, Bool, true, false, cond, nat_lt, List, [], ◌∷◌, length, get_or, All, Any, AllPairs, refl, sym, ap, subst, ◌∙◌, length-append, arith}
+use Rattle.std.proofs.Common.{◌≡◌, ◌⊎◌, inl, inr, ℕ, suc, ◌+◌, ◌-◌, ◌<◌, Bool, true, false, cond, nat_lt, List, [], ◌∷◌, length, get_or, All, Any, AllPairs, refl, sym, ap, subst, ◌∙◌, length-append, arith}
 use Rattle.std.specs.List.{filter}
 use Rattle.std.proofs.lemmas.Bool.Decides.{nat_tests}
-use Rattle.std.proofs.lemmas.List.Elements.{All-cons, All-weaker, filter_passes}
+use Rattle.std.proofs.lemmas.List.Elements.{All-cons}
 use Rattle.std.proofs.lemmas.List.Kept.{AllPairs-cons, AllPairs-filter}
 use Rattle.plan_plane.proofs.Lists.{any_none, any_here, any_there, any_cases}
 use Rattle.plan_plane.proofs.Rising.Lists.{rest_after, rising_tail}
@@ -10,17 +10,10 @@ use Rattle.plan_scene.specs.Scene.{Obstacle, Scene, obstacle, with_obstacle, wit
 use Rattle.plan_scene.specs.Edits.{IsEdited}
 use Rattle.plan_scene.specs.declared.edit.Edit.{Edit}
 use Rattle.plan_scene.specs.declared.edit.Edit.TheVariants.{Add, Remove}
+use Rattle.plan_scene.proofs.Edited.{lesser_than, greater_than}
+use Rattle.plan_scene.proofs.Filtered.{less_false, less_from}
 use Rattle.plan_scene.proofs.Pairs.{pairs_joined}
 use Rattle.plan_top.specs.Telling.{Leaves, count_after}
-
-less_true : (a b : ℕ) → a < b → nat_lt a b ≡ true
-less_true a b h = grind (arith, nat_tests)
-
-less_false : (a b : ℕ) → b ≤ a → nat_lt a b ≡ false
-less_false a b h = grind (arith, nat_tests)
-
-less_from : (a b : ℕ) → nat_lt a b ≡ true → a < b
-less_from a b e = grind (arith, nat_tests)
 
 -- how many have other ids
 abbrev others : ℕ → List Obstacle → ℕ
@@ -70,12 +63,6 @@ one_has id (o ∷ os) rising has = by (any_cases (λ o. o.id ≡ id) o os has) (
     by (inr there) rest = ap suc (other_first id o os (λ same. none_after id o os rising same there) ∙ rest there)
 
 -- ---- ids rise after an edit too
-lesser_than : (id : ℕ) (os : List Obstacle) → All (λ o. o.id < id) (filter (is_lesser id) os)
-lesser_than id os = All-weaker (λ o. is_lesser id o ≡ true) (λ o. o.id < id) (λ o e. less_from o.id id e) (filter (is_lesser id) os) (filter_passes (is_lesser id) os)
-
-greater_than : (id : ℕ) (os : List Obstacle) → All (λ o. id < o.id) (filter (is_greater id) os)
-greater_than id os = All-weaker (λ o. is_greater id o ≡ true) (λ o. id < o.id) (λ o e. less_from id o.id e) (filter (is_greater id) os) (filter_passes (is_greater id) os)
-
 across : (id : ℕ) (os : List Obstacle) (k : ℕ) (d : Obstacle) → k < length (filter (is_lesser id) os) → All (λ p. (get_or (filter (is_lesser id) os) k d).id < p.id) (filter (is_greater id) os)
 across id os k d within j e below = let a = lesser_than id os k d within in let b = greater_than id os j e below in omega (arith, a, b)
 

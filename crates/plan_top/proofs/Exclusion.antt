@@ -13,11 +13,11 @@ use Rattle.plan_check.specs.declared.verdict.Verdict.TheVariants.{Valid, Invalid
 use Rattle.plan_check.specs.declared.fault.CheckFault.{CheckFault}
 use Rattle.plan_check.specs.declared.fault.CheckFault.TheVariants.{EmptyPath, WrongStart, WrongGoal, Touches, Flat, Loose, Unclosed, StartEven, GoalOdd}
 use Rattle.plan_check.proofs.Exclusion.{clear_or_fault, one_path_fault, accepted_or_chain_fault, one_chain_fault}
+use Rattle.plan_ring.proofs.Alike.OneRoom.{one_room}
 use Rattle.plan_reply.specs.First.{IsFirst}
 use Rattle.plan_top.specs.Laws.{HasEnds, ValidOrInvalid, OneFirstFault}
 use Rattle.plan_top.specs.Outcome.{OnProof, IsJudged, IsVerdictOn}
 use Rattle.plan_top.proofs.OneFirst.{one_given, one_first}
-use Rattle.plan_top.proofs.OneRoom.{one_room}
 
 -- ---- a fault, by what is seen of it
 abbrev unseen : reply.Fault → CheckFault

@@ -121,6 +121,10 @@ pub scenes_length : (vs : List Version) → length (scenes_of vs) ≡ length vs
 scenes_length [] = refl
 scenes_length (v ∷ vs) = let rest = scenes_length vs in omega arith
 
+pub some_there : {X : Type 0} (xs : List X) (k : ℕ) (x : X) → slice_get xs k ≡ Some x → 0 < length xs
+some_there [] k x is = absurd cc
+some_there (y ∷ xs) k x is = omega arith
+
 -- ---- a round
 pub record Turned (before after : List Version) (edits : List Edit) (ends : List (Result ℕ StepFault)) (lanes : List (List Query)) (said : List (List (ℕ × Reply))) : Type 0 where
   pub numbered : Numbered 0 after
@@ -133,7 +137,7 @@ turned before after edits ends lanes said numbered h =
     let more = taken_of h.outcomes in
     let last = h.start_is in
     let number : h.start.number ≡ length before - 1 = numbered_at 0 before (length before - 1) h.start numbered last ∙ omega arith in
-    let some : 0 < length before = within before (length before - 1) h.start last in
+    let some : 0 < length before = some_there before (length before - 1) h.start last in
     let taken = taken_numbered h.start edits h.outcomes (length before - 1) h.are_made number in
     let all : Numbered 0 (before ++ more) = numbered_both 0 before more numbered (subst (λ m. Numbered m more) (omega arith) taken) in
     let first : version_of (scenes_of before) ≡ length before - 1 = ap (λ n. n - 1) (scenes_length before) in
@@ -149,10 +153,6 @@ turned before after edits ends lanes said numbered h =
       };
       lines = rw first (ap (ended_lines 1) h.ends_are ∙ edits_told h.start edits h.outcomes 1 (length before - 1) h.are_made number);
     }
-  where
-    within : {X : Type 0} (xs : List X) (k : ℕ) (x : X) → slice_get xs k ≡ Some x → 0 < length xs
-    within [] k x is = absurd cc
-    within (y ∷ xs) k x is = omega arith
 
 -- ---- lists of lists
 map_twice : {X Y Z : Type 0} (f : Y → Z) (g : X → Y) (xs : List X) → map f (map g xs) ≡ map (λ x. f (g x)) xs

@@ -6,10 +6,10 @@ mod Firsts
 mod Alike
 pub mod Judged
 mod OneKept
-mod OneRoom
 mod OneFirst
 mod Exclusion
 mod OneRefusal
+mod OneReason
 mod ReadsPoints
 mod OneAnswer
 mod Limits

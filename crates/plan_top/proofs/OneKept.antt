@@ -16,9 +16,10 @@ use Rattle.plan_poly.specs.Polygon.{IsRead, IsRotation}
 use Rattle.plan_poly.proofs.EvenOdd.Orders.{reverse_seen}
 use Rattle.plan_poly.proofs.FromLeast.Arranged.{flip, rotation_flipped}
 use Rattle.plan_poly.proofs.FromLeast.ByPlace.{from_least_is}
-use Rattle.plan_poly.proofs.FromLeast.Ready.{last_split, split_last}
+use Rattle.plan_poly.proofs.FromLeast.Ready.{last_split}
 use Rattle.plan_poly.proofs.Loop.Backwards.{reversed_is}
 use Rattle.plan_poly.proofs.Spots.{points_seen}
+use Rattle.plan_tri.proofs.Region.Region.{turns_left}
 
 -- ---- spots and their vectors
 abbrev pub unseen : List Vector → List Spot
@@ -51,17 +52,13 @@ rotation_is xs ys (pre, post, e, f) h =
     ap spots_seen f ∙ from_least_kept pre post (subst (λ zs. IsFromLeast (spots_seen zs)) f h) ∙ ap (λ zs. from_least (spots_seen zs)) (sym e)
 
 -- ---- in one of the two orders alone does it turn left
-turns_in : (v w : Vector) (mid : List Vector) (u : Vector) → TurnsLeft (polygon v w mid u) → pos 0 <ℤ turn u v w
-turns_in v w [] u h = h
-turns_in v w (m ∷ ms) u h = subst (λ u. pos 0 <ℤ turn u v w) (split_last m ms u) h
-
 not_both_ways : (v : Vector) (ws : List Vector) → TurnsLeft (v ∷ ws) → ¬ (TurnsLeft (v ∷ reverse ws))
 not_both_ways v [] h k = h
 not_both_ways v (w ∷ []) h k = h
 not_both_ways v (w ∷ (x ∷ xs)) h k =
     let list : w ∷ (x ∷ xs) ≡ w ∷ (but_last x xs ++ last x xs ∷ []) = ap (λ zs. w ∷ zs) (last_split x xs) in
     let other : v ∷ reverse (w ∷ (x ∷ xs)) ≡ polygon v (last x xs) (back (but_last x xs)) w = ap (λ zs. v ∷ zs) (sym (back_is (w ∷ (x ∷ xs)))) ∙ ap (λ zs. v ∷ back zs) list ∙ reversed_is v w (but_last x xs) (last x xs) in
-    let back_turn : pos 0 <ℤ turn w v (last x xs) = turns_in v (last x xs) (back (but_last x xs)) w (subst TurnsLeft other k) in
+    let back_turn : pos 0 <ℤ turn w v (last x xs) = turns_left v (last x xs) (back (but_last x xs)) w (subst TurnsLeft other k) in
     omega (arith, linear, h, back_turn, det_turned (last x xs) v w, det_swapped v w (last x xs))
 
 flipped_from_least : (s : List Spot) → IsFromLeast (spots_seen s) → IsFromLeast (spots_seen (flip s))

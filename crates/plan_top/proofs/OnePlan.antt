@@ -1,5 +1,6 @@
--- Of one document the planned text is one: its first scene is one, and so is each answer that is given in lowest terms.
-use Rattle.std.proofs.Common.{◌≡◌, suc, List, [], ◌∷◌, ◌++◌, All, get_or, refl, sym, ap, ap₂, subst, ◌∙◌, arith}
+-- No bytes have two texts of `plan`: of their document the first scene is one, and so is each answer that is given in lowest terms;
+-- and they are refused for one reason, or not.
+use Rattle.std.proofs.Common.{◌≡◌, ◌⊎◌, inl, inr, ℕ, suc, List, [], ◌∷◌, ◌++◌, All, Some, Ok, Err, get_or, refl, sym, ap, ap₂, subst, ◌∙◌, arith}
 use Rattle.std.specs.List.{AllZip, filter}
 use Rattle.std.proofs.lemmas.Int.{ints}
 use Rattle.std.proofs.lemmas.List.Elements.{All-append, All-cons, All-filter, All-nil}
@@ -7,7 +8,10 @@ use Rattle.plan_spec.specs.Answers.{Answer, start_touches, goal_touches, by_path
 use Rattle.plan_spec.specs.Vector.{Vector, IsPoint}
 use Rattle.plan_grid.specs.Bounds.{IsInRange}
 use Rattle.plan_poly.specs.Polygon.{IsPolygon}
-use Rattle.plan_wire.specs.Documents.{Document, Query, Task, queries, rounds, proof}
+use Rattle.plan_wire.specs.Reading as reading
+use Rattle.plan_wire.specs.Reading.{Read}
+use Rattle.plan_wire.specs.Documents.{Document, Query, Task, queries, rounds, proof, document_of}
+use Rattle.plan_wire.specs.declared.documents.Want.TheVariants.{Plan}
 use Rattle.plan_scene.specs.Scene.{Scene, Obstacle, obstacle, scene_seen, is_lesser, is_greater}
 use Rattle.plan_scene.specs.Edits.{IsAdded}
 use Rattle.plan_ring.specs.Alike.{HasTriangles}
@@ -16,9 +20,15 @@ use Rattle.plan_ring.proofs.Alike.AnswerGiven.{one_in_lowest_terms}
 use Rattle.plan_ring.proofs.Alike.SceneTriangles.{polygons_have_triangles}
 use Rattle.plan_reply.specs.First.{IsFirst, IsWhole, IsAddedAll}
 use Rattle.plan_reply.specs.Stand.{IsLowestAnswer}
-use Rattle.plan_top.specs.Laws.{AskPoints, OnePlan}
-use Rattle.plan_top.specs.Plan.{IsAnswered, OnQueries, query_lines, end_line}
+use Rattle.plan_top.specs.Laws.{IsPlanText, OnePlan}
+use Rattle.plan_top.specs.Lines.{refusal_line}
+use Rattle.plan_top.specs.Outcome.{IsPlanOf, IsRefusalOf}
+use Rattle.plan_top.specs.Plan.{IsAnswered, IsPlanned, OnQueries, query_lines, end_line}
+use Rattle.plan_top.specs.declared.status.Refusal.{Refusal}
 use Rattle.plan_top.proofs.OneFirst.{one_given, one_first}
+use Rattle.plan_top.proofs.OneReason.{refused_by, no_document, line_of_reason, is_read, refused_scene, one_cause}
+use Rattle.plan_top.proofs.ReadsPoints.{AskPoints, asks_are_points}
+use Rattle.plan_top.proofs.RefusedSessions.{no_first}
 
 -- ---- the first scene is one of polygons
 pub record OfPolygons (s : Scene) : Type 0 where
@@ -73,8 +83,8 @@ module _ (d : Document) (first : Scene) (triangles : HasTriangles (scene_seen fi
   of_task (rounds _) ans others points h k = absurd h
   of_task (proof _ _) ans others points h k = absurd h
 
-pub one_plan : OnePlan
-one_plan d t u points h k =
+of_document : (d : Document) (t u : List ℕ) → AskPoints d.task → IsPlanned d t → IsPlanned d u → t ≡ u
+of_document d t u points h k =
     h.is_text ∙ ap (λ ans. query_lines 1 ans ++ end_line) same ∙ sym k.is_text
   where
     same_first : h.first ≡ k.first
@@ -85,3 +95,28 @@ one_plan d t u points h k =
 
     same : h.answers ≡ k.answers
     same = of_task d h.first triangles d.task h.answers k.answers points h.are_answers (subst (λ s. OnQueries d.task (λ qs. AllZip (IsAnswered d.scene s) qs k.answers)) (sym same_first) k.are_answers)
+
+-- ---- of bytes
+no_text : (bytes : List ℕ) (r : reading.Refusal) → document_of bytes Plan ≡ Err r → (t : List ℕ) → IsPlanText bytes t → t ≡ refused_by r
+no_text bytes r e t (inl h) = absurd (no_document Plan bytes r e (λ d. IsPlanned d t) h)
+no_text bytes r e t (inr (q, refused, is_text)) = is_text ∙ line_of_reason Plan bytes r e q refused
+
+module _ (bytes : List ℕ) (d : Document) (e : document_of bytes Plan ≡ Ok d) where
+  planned : (t : List ℕ) → IsPlanOf (Some bytes) t → IsPlanned d t
+  planned t h = is_read Plan bytes d e (λ d. IsPlanned d t) h
+
+  planned_or_refused : (t : List ℕ) (q : Refusal) → IsPlanOf (Some bytes) t → ¬ (IsRefusalOf (Some bytes) q)
+  planned_or_refused t q h k = let p = planned t h in no_first d q p.given p.first (refused_scene Plan bytes d e q k) p.is_given p.is_first
+
+  one_text : (t u : List ℕ) → IsPlanText bytes t → IsPlanText bytes u → t ≡ u
+  one_text t u (inl h) (inl k) = of_document d t u (asks_are_points bytes d e) (planned t h) (planned u k)
+  one_text t u (inl h) (inr (q, k, _)) = absurd (planned_or_refused t q h k)
+  one_text t u (inr (q, h, _)) (inl k) = absurd (planned_or_refused u q k h)
+  one_text t u (inr (q, h, is_t)) (inr (r, k, is_u)) = is_t ∙ ap refusal_line (one_cause d q r (refused_scene Plan bytes d e q h) (refused_scene Plan bytes d e r k)) ∙ sym is_u
+
+pub one_plan : OnePlan
+one_plan bytes t u h k = by (document_of bytes Plan) refl
+  where
+    by : (o : Read Document) → document_of bytes Plan ≡ o → t ≡ u
+    by (Err r) e = no_text bytes r e t h ∙ sym (no_text bytes r e u k)
+    by (Ok d) e = one_text bytes d e t u h k

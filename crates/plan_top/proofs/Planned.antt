@@ -4,13 +4,11 @@ use Rattle.std.specs.List.{AllZip}
 use Rattle.plan_spec.specs.Answers.{Answer, IsRight}
 use Rattle.plan_wire.specs.Documents.{Document, Query}
 use Rattle.plan_wire.specs.Documents.{document_of}
-use Rattle.plan_wire.specs.declared.documents.Want.{Want}
 use Rattle.plan_wire.specs.declared.documents.Want.TheVariants as want
 use Rattle.plan_scene.specs.Scene.{Scene, scene_seen}
-use Rattle.plan_top.specs.Outcome.{Told, IsRefusedScene, IsRefusal, IsRefusalOf, IsPlanOf, IsBegunOf, IsReadToEnd, OnDocument, PlanOutcome, AnswerOutcome, LineOutcome}
+use Rattle.plan_top.specs.Outcome.{Told, IsRefusalOf, IsPlanOf, IsBegunOf, IsReadToEnd, OnDocument, PlanOutcome, LineOutcome}
 use Rattle.plan_top.specs.Plan.{IsReplied, IsAnswered, OnFirst, OnQueries, IsBegun, IsPlanned, IsReady, AreFirstLines, AreAllLines, RepliesOutcome}
 use Rattle.plan_top.specs.declared.status.Refusal.{Refusal}
-use Rattle.plan_top.specs.declared.status.Refusal.TheVariants.{TooLong, Json, Form, Range, RobotNotSimple, Obstacle, TooManyRegions}
 use Rattle.plan_top.specs.declared.status.Status.{Status}
 use Rattle.plan_top.specs.declared.status.Status.TheVariants.{Done, Usage, Refused, ReadFault, WriteFault, NoMemory, Invalid}
 use Rattle.plan_top.proofs.Firsts.{touches_alike, touched_alike}
@@ -94,21 +92,3 @@ told_of P (Some all) bytes e h = subst P e h
 pub of_refused : (told left before after : Told) (refusal : Refusal) (status : Status) → IsRefusalOf told refusal → LineOutcome (Refused refusal) before after status → PlanOutcome told left before after status
 of_refused told left before after refusal status h (inl put) = rw put.0 (h, put.1)
 of_refused told left before after refusal status h (inr cut) = rw cut.0 (inr (refusal, h, cut.1))
-
-pub of_refusal : (told left before after : Told) (refusal : Refusal) (status : Status) → IsRefusalOf told refusal → AnswerOutcome (Refused refusal) before after status → PlanOutcome told left before after status
-of_refusal told left before after refusal status h (inl line) = of_refused told left before after refusal status h line
-of_refusal told left before after refusal status h (inr none) = rw none.0 (inl none.1)
-
--- what holds of the document that the bytes are
-pub on_document : (want : Want) (bytes : List ℕ) (d : Document) (P : Document → Type 0) → document_of bytes want ≡ Ok d → P d → OnDocument want bytes P
-on_document want bytes d P e h = subst (λ o. IsOkAnd o P) (sym e) h
-
--- a document whose first scene is refused
-pub refused_document : (want : Want) (bytes : List ℕ) (d : Document) (refusal : Refusal) → document_of bytes want ≡ Ok d → IsRefusedScene d refusal → IsRefusal want bytes refusal
-refused_document want bytes d (RobotNotSimple i j) e h = on_document want bytes d (λ d. IsRefusedScene d (RobotNotSimple i j)) e h
-refused_document want bytes d (Obstacle at fault) e h = on_document want bytes d (λ d. IsRefusedScene d (Obstacle at fault)) e h
-refused_document want bytes d TooManyRegions e h = on_document want bytes d (λ d. IsRefusedScene d TooManyRegions) e h
-refused_document want bytes d TooLong e h = absurd h.is_refused
-refused_document want bytes d Json e h = absurd h.is_refused
-refused_document want bytes d (Form p) e h = absurd h.is_refused
-refused_document want bytes d (Range p) e h = absurd h.is_refused

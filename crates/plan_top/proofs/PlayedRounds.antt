@@ -1,5 +1,5 @@
 -- Rounds that are played, told and written one after another.
-use Rattle.std.proofs.Common.{◌≡◌, inl, inr, ℕ, zero, suc, ◌+◌, ◌<◌, ◌≤◌, List, [], ◌∷◌, ◌++◌, length, take, get_or, Err, Ok, Some, None, refl, sym, ap, subst, ◌∙◌, append-nil, arith}
+use Rattle.std.proofs.Common.{◌≡◌, inl, inr, ℕ, zero, suc, ◌+◌, ◌<◌, ◌≤◌, List, [], ◌∷◌, ◌++◌, length, take, get_or, Err, Ok, refl, sym, ap, subst, ◌∙◌, arith}
 use Rattle.std.specs.List.{concat}
 use Rattle.plan_wire.specs.Documents as document
 use Rattle.plan_wire.specs.Stream.{Appends}
@@ -15,7 +15,7 @@ use Rattle.plan_top.specs.declared.status.Status.TheVariants.{Done, Usage, Refus
 use Rattle.plan_top.proofs.Histories.{Numbered, scenes_of, rounds_more}
 use Rattle.plan_top.proofs.Replies.{appends_both, part_behind}
 use Rattle.plan_top.proofs.Watchers.{told_both}
-use Rattle.plan_top.proofs.WrittenLines.{behind}
+use Rattle.plan_top.proofs.WrittenLines.{behind, none_more}
 
 take_whole : {X : Type 0} (xs : List X) → take (length xs) xs ≡ xs
 take_whole [] = refl
@@ -40,16 +40,12 @@ pub record Played (first : Scene) (rounds : List document.Round) (list : List Ve
   pub told : AreTold old now (pairs_of (scenes_of list))
 
 -- none is
-appends_none : (bytes : Told) → Appends bytes bytes []
-appends_none None = refl
-appends_none (Some bytes) = ap Some (sym (append-nil bytes))
-
 pub none_played : (v : Version) (rounds : List document.Round) (list : List Version) (before : Told) (old : List Watched) → Numbered 0 list → list ≡ v ∷ [] → Played v.stand rounds list before before old old 0
 none_played v rounds list before old numbered is =
-    subst (λ (l : List Version). Played v.stand rounds l before before old old 0) (sym is) (record { numbered = subst (Numbered 0) is numbered; lines = []; are_rounds = (refl, refl); appended = appends_none before; told = refl })
+    subst (λ (l : List Version). Played v.stand rounds l before before old old 0) (sym is) (record { numbered = subst (Numbered 0) is numbered; lines = []; are_rounds = (refl, refl); appended = none_more before; told = refl })
 
 pub nothing : (first : Scene) (rounds : List document.Round) (before : Told) (old : List Watched) → RoundsOutcome first rounds before before (AreTold old old) NoMemory
-nothing first rounds before old = ([], [], record { count = 0; history = first ∷ []; are_rounds = (refl, refl); are_pairs = refl }, 0, appends_none before, refl)
+nothing first rounds before old = ([], [], record { count = 0; history = first ∷ []; are_rounds = (refl, refl); are_pairs = refl }, 0, none_more before, refl)
 
 module _ (first : Scene) (rounds : List document.Round) (list : List Version) (before mid after : Told) (old now : List Watched) where
   pub stopped : (at : ℕ) → Played first rounds list before mid old now at → RoundsOutcome first rounds before mid (AreTold old now) NoMemory

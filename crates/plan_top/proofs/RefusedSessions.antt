@@ -9,7 +9,7 @@ use Rattle.plan_top.specs.declared.status.Refusal.{Refusal}
 use Rattle.plan_top.proofs.OneFirst.{one_given}
 use Rattle.plan_top.proofs.OneRefusal.{first_or_refused}
 
-no_first : (d : Document) (refusal : Refusal) (given first : Scene) → IsRefusedScene d refusal → scene_seen given ≡ d.scene → IsFirst given first → ⊥
+pub no_first : (d : Document) (refusal : Refusal) (given first : Scene) → IsRefusedScene d refusal → scene_seen given ≡ d.scene → IsFirst given first → ⊥
 no_first d refusal given first refused is_given is_first = first_or_refused refused.given first refusal (subst (λ s. IsFirst s first) (one_given given refused.given d.scene is_given refused.is_given) is_first) refused.is_refused
 
 pub refused_or_begun : RefusedOrBegun

@@ -40,9 +40,6 @@ counts_one : (c : EditCount) (end : End) → CountsEdits 1 c (count_end c end)
 counts_one c (Ok scene) = omega arith
 counts_one c (Err fault) = omega arith
 
-pub none_edited : (t : Demonstration) → HasEditedAll 0 t t
-none_edited t = record { ends = []; are_ends = tt; stand = refl; draws = refl; edits = refl; counts = omega arith; replies = refl }
-
 pub edited_more : (n : ℕ) (a b c : Demonstration) → HasEditedAll n a b → HasEdited b c → HasEditedAll (n + 1) a c
 edited_more n a b c h k = subst (λ m. HasEditedAll m a c) (up n) (record {
   ends = h.ends ++ k.end ∷ [];
@@ -75,12 +72,6 @@ counts_both m n a b c h k = record {
   points = let first = h.points in let then = k.points in omega arith;
   segments = let first = h.segments in let then = k.segments in omega arith;
 }
-
-counts_none : (c : ReplyCount) → CountsReplies 0 c c
-counts_none c = record { count = omega arith; points = omega arith; segments = omega arith }
-
-pub none_asked : (t : Demonstration) → HasAskedAll 0 t t
-none_asked t = record { answers = []; are_answers = tt; stand = refl; draws = refl; edits = refl; replies = refl; counts = counts_none t.replies }
 
 pub asked_more : (n : ℕ) (a b c : Demonstration) → HasAskedAll n a b → HasAsked b c → HasAskedAll (n + 1) a c
 asked_more n a b c h k = subst (λ m. HasAskedAll m a c) (up n) (record {
@@ -124,9 +115,6 @@ is_turn σ s p h k = record { are_ends = h; are_answers = k }
 is_after : (σ : ℕ) → after_queries 64 (after_edits 8 σ) ≡ after_turn σ
 unfolding after_turn
 is_after σ = refl
-
-pub none_played : (t : Demonstration) → HasPlayed 0 t t
-none_played t = record { played = []; are_turns = tt; stand = refl; draws = refl; edits = refl; edit_counts = omega arith; replies = refl; reply_counts = counts_none t.replies }
 
 module _ (n : ℕ) (a b c d : Demonstration) (before : HasPlayed n a b) (edited : HasEditedAll 8 b c) (asked : HasAskedAll 64 c d) where
   abbrev here : Played

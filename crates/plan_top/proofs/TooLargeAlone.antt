@@ -2,14 +2,12 @@
 use Rattle.std.proofs.Common.{◌≡◌, ⊎_elim, ℕ, zero, suc, ◌+◌, ◌*◌, ◌<◌, ◌≤◌, true, false, List, [], ◌∷◌, ◌++◌, Any, length, map, length-append, refl, sym, ap, subst, ◌∙◌, arith}
 use Rattle.std.specs.List.{filter, sum_by}
 use Rattle.std.proofs.lemmas.Bool.Decides.{nat_tests}
-use Rattle.std.proofs.lemmas.List.{length-map, length-reverse}
+use Rattle.std.proofs.lemmas.List.{length-map}
 use Rattle.std.proofs.lemmas.List.Sums.{sum-map, sum_by-append, sum_by-cons}
 use Rattle.plan_spec.specs.SimplePolygon.{IsFirstWrongPair}
 use Rattle.plan_plane.proofs.Lists.{any_none, any_cases}
 use Rattle.plan_grid.specs.declared.spot.Spot.{Spot}
 use Rattle.plan_grid.specs.Spot.{spot_seen, spots_seen}
-use Rattle.plan_poly.specs.Polygon.{IsRead}
-use Rattle.plan_poly.proofs.FromLeast.Arranged.{length_rotated}
 use Rattle.plan_demo.specs.Demo.{floor, rectangle, obstacles, robot}
 use Rattle.plan_demo.specs.Draws.{after}
 use Rattle.plan_demo.proofs.Rectangles.{drawn_is_simple, four_drawn, robot_is_simple}
@@ -17,15 +15,12 @@ use Rattle.plan_scene.specs.Scene.{Scene, Obstacle, obstacle, obstacle_seen, sce
 use Rattle.plan_scene.specs.Edits.{IsAdded, IsNotAdded}
 use Rattle.plan_scene.specs.declared.fault.EditFault.{EditFault}
 use Rattle.plan_scene.specs.declared.fault.EditFault.TheVariants.{Duplicate, Unknown, NotSimple, TooManyObstacles, TooManySums, NoMemory}
+use Rattle.plan_scene.proofs.Read.{same_count}
 use Rattle.plan_reply.specs.First.{IsRefusedAt}
 use Rattle.plan_reply.specs.Step.{IsCause}
 use Rattle.plan_top.specs.First.{IsRefusedBy}
 use Rattle.plan_top.specs.declared.status.Refusal.{Refusal}
 use Rattle.plan_top.specs.declared.status.Refusal.TheVariants.{TooLong, Json, Form, Range, RobotNotSimple, Obstacle as ObstacleAt, TooManyRegions}
-
--- ---- a polygon that is read has as many vertices as were given
-as_many : (given kept : List Spot) → IsRead given kept → length kept ≡ length given
-as_many given kept r = ⊎_elim (λ h. length_rotated given kept h) (λ h. length_rotated _ kept h ∙ length-reverse given) r.order
 
 -- ---- obstacles of lesser ids
 abbrev Below : ℕ → List Obstacle → Type 0
@@ -74,7 +69,7 @@ put_more n s t o four id put (_, _, _, kept, read, e) = subst (Put (suc n)) (sym
   few = let few = put.few in let longer = length-append s.obstacles (last ∷ []) in omega arith;
   sums =
       let before = put.sums in
-      let here = four_pairs s.robot kept put.robot (as_many o.spots kept read ∙ four) in
+      let here = four_pairs s.robot kept put.robot (same_count o.spots kept read ∙ four) in
       let one = sum_by-cons (λ (o : Obstacle). pairs s.robot o.spots) last [] in
       sum_by-append (λ (o : Obstacle). pairs s.robot o.spots) s.obstacles (last ∷ []) ∙ omega arith;
 })
@@ -130,7 +125,7 @@ module _ (number : ℕ) (given : Scene) (is_given : scene_seen given ≡ floor n
   too_large_alone TooManyRegions h = refl
   too_large_alone (RobotNotSimple i j) h = let w = subst (λ vs. IsFirstWrongPair vs i j) given_robot h in absurd (robot_is_simple i j w.ordered w.within w.wrong)
   too_large_alone (ObstacleAt k f) (alone, is_alone, h) =
-      let long : length is_alone.kept ≡ 4 = as_many given.robot is_alone.kept is_alone.is_read ∙ sym (length-map given.robot spot_seen) ∙ ap length given_robot in
+      let long : length is_alone.kept ≡ 4 = same_count given.robot is_alone.kept is_alone.is_read ∙ sym (length-map given.robot spot_seen) ∙ ap length given_robot in
       absurd (none_refused 40 0 number given.obstacles alone given_obstacles (subst (Put 0) (sym is_alone.is_scene) (record { robot = long; below = tt; few = refl; sums = refl })) (omega arith) k f h)
   too_large_alone TooLong h = absurd h
   too_large_alone Json h = absurd h

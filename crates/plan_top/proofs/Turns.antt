@@ -1,5 +1,5 @@
 -- A round that has ended: its lines, what is told of it, and how many of all there are.
-use Rattle.std.proofs.Common.{◌≡◌, ℕ, suc, ◌+◌, ◌-◌, ◌*◌, ◌<◌, ◌≤◌, List, Vec, [], ◌∷◌, ◌++◌, Result, Ok, Err, Some, IfSome, Global, length, map, slice_get, get_or, All, refl, sym, ap, subst, ◌∙◌, length-append, arith}
+use Rattle.std.proofs.Common.{◌≡◌, ℕ, suc, ◌+◌, ◌-◌, ◌*◌, ◌<◌, ◌≤◌, List, Vec, [], ◌∷◌, ◌++◌, Result, Ok, Err, IfSome, Global, length, map, slice_get, get_or, All, refl, sym, ap, subst, ◌∙◌, length-append, arith}
 use Rattle.std.specs.List.{AllZip}
 use Rattle.std.proofs.lemmas.List.{length-map, get_or-map}
 use Rattle.std.proofs.lemmas.List.Elements.{All-head, All-tail, All-cons, All-nil}
@@ -31,7 +31,7 @@ use Rattle.plan_top.specs.declared.planning.Version.{Version}
 use Rattle.plan_top.specs.declared.session.Round.{Round}
 use Rattle.plan_top.specs.declared.status.Status.TheVariants.{WriteFault, NoMemory}
 use Rattle.plan_top.proofs.Counted.{IsRising}
-use Rattle.plan_top.proofs.Histories.{Ended, Numbered, ended, number_of, numbered_at, scenes_of}
+use Rattle.plan_top.proofs.Histories.{Ended, Numbered, ended, number_of, numbered_at, scenes_of, some_there}
 use Rattle.plan_top.proofs.PlayedRounds.{Played, round_written, round_cut, round_without_memory}
 use Rattle.plan_top.proofs.ToldRounds.{AreToldOf, LastHas, are_told, is_told}
 
@@ -65,10 +65,6 @@ taken_few : (outcomes : List (Outcome Version StepFault)) → length (taken_of o
 taken_few [] = omega arith
 taken_few (Taken next ∷ outcomes) = let rest = taken_few outcomes in omega (arith, rest)
 taken_few (Refused why ∷ outcomes) = let rest = taken_few outcomes in omega (arith, rest)
-
-some_there : {X : Type 0} (xs : List X) (k : ℕ) (x : X) → slice_get xs k ≡ Some x → 0 < length xs
-some_there [] k x is = absurd cc
-some_there (y ∷ xs) k x is = omega arith
 
 -- the last number and so many more
 pub room_for : (list : List Version) (n at : ℕ) → Numbered 0 list → length list ≤ 1 + 32 * at → at < 64 → n ≤ 32 → IfSome (slice_get list (length list - 1)) (λ v. v.number + n ≤ 2048)

@@ -63,7 +63,7 @@ cut_left {all = all} {before = before} {mid = mid} after next left e parts l put
     let both = subst (λ (lines : List Line). AreLeft all lines before mid) parts l in
     both.together after (Err e) (cut_before next left mid after e put)
 
-none_more : (told : Told) → Appends told told []
+pub none_more : (told : Told) → Appends told told []
 none_more None = refl
 none_more (Some bytes) = ap Some (sym (append-nil bytes))
 

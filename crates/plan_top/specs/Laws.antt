@@ -1,14 +1,12 @@
 -- The answers of `check` exclude each other, the lines of `plan` and of `demo` are one, and a session begins only in a first scene.
-use Rattle.std.specs.Prelude.{◌≡◌, ℕ, List, Some, All}
+use Rattle.std.specs.Prelude.{◌≡◌, ◌⊎◌, ℕ, List, Some, All}
 use Rattle.plan_spec.specs.Segment.{HasPoints}
-use Rattle.plan_spec.specs.Vector.{IsPoint}
-use Rattle.plan_wire.specs.Documents.{Document, Certificate, path, chain, Task}
+use Rattle.plan_wire.specs.Documents.{Document, Certificate, path, chain}
 use Rattle.plan_check.specs.declared.fault.CheckFault.{CheckFault}
 use Rattle.plan_check.specs.declared.verdict.Verdict.TheVariants.{Valid, Invalid}
 use Rattle.plan_top.specs.Demo.{IsDemo}
-use Rattle.plan_top.specs.Lines.{line_of}
-use Rattle.plan_top.specs.Outcome.{OnProof, IsJudged, IsAnswer, IsRefusedScene}
-use Rattle.plan_top.specs.Plan.{IsPlanned, OnQueries}
+use Rattle.plan_top.specs.Lines.{line_of, refusal_line}
+use Rattle.plan_top.specs.Outcome.{OnProof, IsJudged, IsAnswer, IsPlanOf, IsRefusalOf, IsRefusedScene}
 use Rattle.plan_top.specs.Session.{IsSession, IsSessionBegun, Line}
 use Rattle.plan_top.specs.Status.{code_of}
 use Rattle.plan_top.specs.Watching.{Pair}
@@ -40,13 +38,13 @@ SameAnswer s t = (code_of s ≡ code_of t) × (line_of s ≡ line_of t)
 abbrev pub OneAnswer : Type 0
 OneAnswer = (bytes : List ℕ) (s t : Status) → IsAnswer (Some bytes) s → IsAnswer (Some bytes) t → SameAnswer s t
 
--- starts and goals of the queries are points
-abbrev pub AskPoints : Task → Type 0
-AskPoints t = OnQueries t (All (λ q. IsPoint q.start × IsPoint q.goal))
+-- a whole text of `plan` to bytes that are told, or the line of their refusal
+abbrev pub IsPlanText : List ℕ → List ℕ → Type 0
+IsPlanText bytes text = IsPlanOf (Some bytes) text ⊎ ((refusal : Refusal) × IsRefusalOf (Some bytes) refusal × (text ≡ refusal_line refusal))
 
--- of one document the planned text is one
+-- two such texts are one
 abbrev pub OnePlan : Type 0
-OnePlan = (d : Document) (t u : List ℕ) → AskPoints d.task → IsPlanned d t → IsPlanned d u → t ≡ u
+OnePlan = (bytes t u : List ℕ) → IsPlanText bytes t → IsPlanText bytes u → t ≡ u
 
 -- of a document whose first scene is refused no rounds are played
 abbrev pub RefusedOrBegun : Type 0

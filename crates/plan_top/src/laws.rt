@@ -17,7 +17,8 @@ pub fn one_answer()
     ensures { OneAnswer }
 {}
 
-/// No document of `plan` has two texts: its first scene is one, and the reply to each query is one.
+/// No bytes have two texts of `plan`: two lawful ones, whole lines or the line of a refusal, are one. So none depends on
+/// the number of workers.
 pub fn one_plan()
     ensures { OnePlan }
 {}

@@ -1,15 +1,16 @@
 -- The point of three numbers, where one is made of them, is that of the definition: both are in lowest terms and at one position.
-use Rattle.std.proofs.Common.{◌≡◌, ℕ, zero, suc, ◌*◌, ◌%◌, ◌<◌, ◌^◌, ℤ, pos, negsuc, neg_ℤ, ◌*ℤ◌, ◌≤ℤ◌, ◌<ℤ◌, unsigned_abs, int_le, nat_le, Bool, true, false, ◌&&◌, Option, Some, None, IsNone, IfSome, ◌⊎◌, inl, inr, ◌↔◌, rules, cond, refl, sym, ap, arith}
-use Rattle.std.specs.Int.{IsGcd, ◌∣◌}
-use Rattle.std.specs.Int.RustNames.{int_div, int_rem}
-use Rattle.std.proofs.lemmas.Int.{ints, quot-rem}
+use Rattle.std.proofs.Common.{◌≡◌, ℕ, zero, suc, ◌*◌, ◌%◌, ◌<◌, ◌^◌, ℤ, pos, unsigned_abs, int_le, nat_le, Bool, true, false, ◌&&◌, Option, Some, None, IsNone, IfSome, ◌⊎◌, inl, inr, ◌↔◌, rules, cond, refl, sym, ap, arith}
+use Rattle.std.specs.Int.{IsGcd}
+use Rattle.std.proofs.lemmas.Int.{ints}
 use Rattle.std.proofs.lemmas.Bool.{leb-true, leb-false, and_parts}
 use Rattle.std.proofs.lemmas.Bool.Decides.{nat_tests}
 use Rattle.std.proofs.lemmas.Option.{cond_some}
-use Rattle.std.proofs.lemmas.Nat.Gcd.{IsGcd-from_zero, IsGcd-from_mod, mod-eq-zero_of_dvd}
+use Rattle.std.proofs.lemmas.Nat.Gcd.{IsGcd-from_zero, IsGcd-from_mod}
+use Rattle.plan_exact.proofs.Tests.{le_from_true, lt_from_false}
 use Rattle.plan_spec.specs.Vector.{Vector, Same}
 use Rattle.plan_plane.proofs.Segment.Same.{Same-trans, Same-swapped}
 use Rattle.plan_grid.specs.Bounds.{IsBeyond, IsBounded, IsInRange}
+use Rattle.plan_grid.proofs.Divisors.{quotient_is_exact}
 use Rattle.plan_grid.proofs.Lowest.{IsReduced, divisor_of_gcds, reduced_is_same, reduced_is_in_range}
 use Rattle.plan_grid.proofs.Unique.{equal_points}
 use Rattle.plan_wire.specs.Documents.{is_point, gcd_by, gcd, lowest, point_at}
@@ -28,31 +29,15 @@ is_gcd : (a b : ℕ) → IsGcd a b (gcd a b)
 unfolding gcd
 is_gcd a b = euclid (suc b) a b (omega arith)
 
-rem_zero : (a : ℤ) (d : ℕ) → d ∣ unsigned_abs a → int_rem a (pos d) ≡ pos 0
-rem_zero (pos n) d h = ap pos (mod-eq-zero_of_dvd d h)
-rem_zero (negsuc n) d h = ap (λ r. neg_ℤ (pos r)) (mod-eq-zero_of_dvd d h)
-
-exact : (a : ℤ) (d : ℕ) → d ∣ unsigned_abs a → int_div a (pos d) *ℤ pos d ≡ a
-exact a d h =
-    let r = rem_zero a d h in
-    let q = quot-rem a (pos d) in
-    omega (arith, ints)
-
 reduced : (p : Vector) → IsBounded (2 ^ 51) p → (g : ℕ) × IsReduced p (lowest p) g
 unfolding lowest
 reduced p b =
     let h = gcd (unsigned_abs p.x) (unsigned_abs p.y) in
     let g = gcd h (unsigned_abs p.w) in
     let d = divisor_of_gcds p.x p.y p.w h g b.weight (omega (arith, b.weight_bounded)) (is_gcd (unsigned_abs p.x) (unsigned_abs p.y)) (is_gcd h (unsigned_abs p.w)) in
-    (g, record { x = exact p.x g d.x; y = exact p.y g d.y; w = exact p.w g d.w; divisor = d })
+    (g, record { x = quotient_is_exact p.x g d.x; y = quotient_is_exact p.y g d.y; w = quotient_is_exact p.w g d.w; divisor = d })
 
 -- ---- the test
-
-from_le : (x y : ℤ) → int_le x y ≡ true → x ≤ℤ y
-from_le x y h = grind (arith, ints)
-
-from_not_le : (x y : ℤ) → int_le x y ≡ false → y <ℤ x
-from_not_le x y h = grind (arith, ints)
 
 where_point : (p : Vector) → is_point p ≡ true → IsBounded (2 ^ 51) p
 where_point p h =
@@ -60,8 +45,8 @@ where_point p h =
     let weight = and_parts (int_le (pos 1) p.w) (int_le p.w (pos (2 ^ 51))) both.0 in
     let coordinates = and_parts (nat_le (unsigned_abs p.x) (2046 * unsigned_abs p.w)) (nat_le (unsigned_abs p.y) (2046 * unsigned_abs p.w)) both.1 in
     record {
-      weight = from_le (pos 1) p.w weight.0;
-      weight_bounded = omega (arith, ints, from_le (pos 1) p.w weight.0, from_le p.w (pos (2 ^ 51)) weight.1);
+      weight = le_from_true (pos 1) p.w weight.0;
+      weight_bounded = omega (arith, ints, le_from_true (pos 1) p.w weight.0, le_from_true p.w (pos (2 ^ 51)) weight.1);
       x_bounded = leb-true _ _ coordinates.0;
       y_bounded = leb-true _ _ coordinates.1;
     }
@@ -77,8 +62,8 @@ where_beyond : (p : Vector) → is_point p ≡ false → IsBeyond p.x p.y p.w
 where_beyond p h = first (one_false (int_le (pos 1) p.w) (int_le p.w (pos (2 ^ 51))) (nat_le (unsigned_abs p.x) (2046 * unsigned_abs p.w)) (nat_le (unsigned_abs p.y) (2046 * unsigned_abs p.w)) h)
   where
     first : (int_le (pos 1) p.w ≡ false) ⊎ ((int_le p.w (pos (2 ^ 51)) ≡ false) ⊎ ((nat_le (unsigned_abs p.x) (2046 * unsigned_abs p.w) ≡ false) ⊎ (nat_le (unsigned_abs p.y) (2046 * unsigned_abs p.w) ≡ false))) → IsBeyond p.x p.y p.w
-    first (inl e) = inl (from_not_le (pos 1) p.w e)
-    first (inr (inl e)) = inr (inl (from_not_le p.w (pos (2 ^ 51)) e))
+    first (inl e) = inl (lt_from_false (pos 1) p.w e)
+    first (inr (inl e)) = inr (inl (lt_from_false p.w (pos (2 ^ 51)) e))
     first (inr (inr (inl e))) = inr (inr (inl (leb-false _ _ e)))
     first (inr (inr (inr e))) = inr (inr (inr (leb-false _ _ e)))
 

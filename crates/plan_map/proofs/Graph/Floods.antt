@@ -1,7 +1,7 @@
--- Floods from one number after another: begun, at a number that has no label yet, on to the next that is seen, at the end of each, and at the end of all.
-use Rattle.std.proofs.Common.{◌≡◌, ℕ, suc, ◌+◌, ◌≤◌, ◌<◌, ◌⊎◌, inl, inr, replicate, List, [], ◌∷◌, ◌++◌, length, get_or, set, Option, Some, None, All, refl, sym, ap, ◌∙◌, subst, arith, get_or-set_same, get_or-set_other}
+-- Floods from one number after another: at a number that has no label yet, on to the next that is seen, and at the end of all.
+use Rattle.std.proofs.Common.{◌≡◌, ℕ, suc, ◌+◌, ◌≤◌, ◌<◌, inl, inr, List, [], ◌∷◌, ◌++◌, length, get_or, set, Option, Some, None, All, refl, sym, ap, ◌∙◌, subst, arith, get_or-set_same, get_or-set_other}
 use Rattle.std.proofs.lemmas.Bool.{cases_eq, cases_lt}
-use Rattle.std.proofs.lemmas.List.{get_or_append_left, get_or_push, length_push, length-set, length-replicate, get_or-replicate, get_or_past, get_or_default}
+use Rattle.std.proofs.lemmas.List.{get_or_append_left, get_or_push, length_push, length-set, get_or_default}
 use Rattle.std.proofs.lemmas.List.Elements.{All-head, All-tail, All-nil, All-cons, All-contains, Contains-get_or}
 use Rattle.plan_spec.specs.Walks.{Leads, AreJoined}
 use Rattle.plan_map.specs.Labels.{AreLabels, IsFlood, HasLabels}
@@ -187,27 +187,6 @@ pub never_more : {next : ℕ → ℕ → Type 0} {count label : ℕ} {seen : Lis
 never_more {count = count} {seen = seen} s = few_distinct seen count s.once s.below
 
 -- ---- from one flood to the next
-pub dry : (next : ℕ → ℕ → Type 0) (count : ℕ) → IsFlood next count 0 [] 0 (replicate count None)
-dry next count = record {
-  size = length-replicate count None;
-  below = λ k hk. absurd (omega arith);
-  once = λ i j hij hj e. absurd (omega arith);
-  listed = λ n l e. absurd (unseen n l e);
-  labelled = λ k hk. absurd (omega arith);
-  joined = λ n l e. absurd (unseen n l e);
-  low = λ n l e. absurd (unseen n l e);
-  around = λ i n hi hs step. absurd (omega arith);
-  ahead = λ i hi hs. absurd (omega arith);
-  lesser = λ m h. absurd (omega arith);
-}
-  where
-    unseen : (n l : ℕ) → at (replicate count None) n ≡ Some l → ⊥
-    unseen n l f = by (cases_lt n count) f
-      where
-        by : (n < count) ⊎ (count ≤ n) → at (replicate count None) n ≡ Some l → ⊥
-        by (inl h) f = let g = get_or-replicate {A = Option ℕ} count n None None h in cc
-        by (inr h) f = let g = get_or_past (replicate {A = Option ℕ} count None) n None (omega (arith, length-replicate {A = Option ℕ} count None)) in cc
-
 pub poured : {next : ℕ → ℕ → Type 0} {count label : ℕ} {seen seen' : List ℕ} {labels labels' : List (Option ℕ)} → IsFlood next count label seen (length seen) labels → label < count → state seen' labels' ≡ visit label label (state seen labels)
     → IsPoured next count label seen' (length seen) labels'
 poured {next} {count} {label} {seen} {seen'} {labels} {labels'} s h became = subst (λ st. IsPoured next count label st.seen (length seen) st.dist) (sym became) (go (at labels label) refl)
@@ -219,25 +198,6 @@ poured {next} {count} {label} {seen} {seen'} {labels} {labels'} s h became = sub
     go None e = record {
       flood = labelled s (omega arith) label h e (label ∷ [], (refl, refl));
       own = record { distance = label; is_some = get_or-set_same labels label (Some label) None (omega (arith, s.size)) };
-    }
-
-pub next_flood : {next : ℕ → ℕ → Type 0} {count label : ℕ} {seen : List ℕ} {head : ℕ} {labels : List (Option ℕ)} → IsPoured next count label seen head labels → length seen ≤ head → IsFlood next count (label + 1) seen (length seen) labels
-next_flood {label = label} {labels = labels} p all =
-    let s = p.flood in
-    record {
-      size = s.size;
-      below = s.below;
-      once = s.once;
-      listed = s.listed;
-      labelled = s.labelled;
-      joined = s.joined;
-      low = s.low;
-      around = λ i n hi hs step. s.around i n (omega arith) hs step;
-      ahead = λ i hi hs. absurd (omega arith);
-      lesser = λ m h. elim (cases_eq m label) [
-        | inl same ↦ subst (Measured labels) (sym same) p.own
-        | inr other ↦ s.lesser m (omega arith)
-      ];
     }
 
 -- ---- all floods together

@@ -28,6 +28,17 @@ leads_of next m n (k ∷ ks, (e, leads)) = (ks, subst (λ k. Leads next n k ks) 
 pub one_step_on : (next : ℕ → ℕ → Type 0) (m n k : ℕ) → AreJoined next m n → next n k → AreJoined next m k
 one_step_on next m n k j step = let (ns, leads) = leads_of next m n j in (m ∷ (ns ++ k ∷ []), (refl, longer next n k m ns leads step))
 
+-- and along another walk
+leads_on : (next : ℕ → ℕ → Type 0) (m n k : ℕ) (xs ys : List ℕ) → Leads next n m xs → Leads next k n ys → Leads next k m (xs ++ ys)
+leads_on next m n k [] ys e rest = subst (λ n. Leads next k n ys) (sym e) rest
+leads_on next m n k (x ∷ xs) ys (step, more) rest = (step, leads_on next x n k xs ys more rest)
+
+pub joined_on : (next : ℕ → ℕ → Type 0) (m n k : ℕ) → AreJoined next m n → AreJoined next n k → AreJoined next m k
+joined_on next m n k i j =
+    let (xs, leads) = leads_of next m n i in
+    let (ys, rest) = leads_of next n k j in
+    (m ∷ (xs ++ ys), (refl, leads_on next m n k xs ys leads rest))
+
 -- ---- distances tell whether a walk leads to the goal
 pub not_joined : {next : ℕ → ℕ → Type 0} {goal : ℕ} {dist : ℕ → Option ℕ} → AreDistances next goal dist → (r : ℕ) → dist r ≡ None → ¬ (AreJoined next r goal)
 not_joined {next} {goal} {dist} are r none joined =
@@ -61,9 +72,6 @@ module _ {next : ℕ → ℕ → Type 0} {goal : ℕ} (dist : List (Option ℕ))
           (measured.exact n).1 (within n w.distance w.is_some, record { distance = w.distance; is_some = w.is_some })
 
 -- ---- the numbers that have a distance, one after another
-pub none_measured : (dist : List (Option ℕ)) → AreMeasured dist 0 []
-none_measured dist = record { exact = λ n. (λ (k, within, is). absurd (omega arith), λ (less, m). absurd (omega arith)); rising = λ i j d less within. absurd (omega arith) }
-
 pub one_measured : {dist : List (Option ℕ)} {i : ℕ} {ns : List ℕ} → AreMeasured dist i ns → Measured dist i → AreMeasured dist (i + 1) (ns ++ i ∷ [])
 one_measured {dist} {i} {ns} are m = record {
   exact = λ n. (to n, from n);

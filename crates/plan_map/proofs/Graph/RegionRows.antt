@@ -63,7 +63,7 @@ is_row σ found rising r a b c d hr left right = record { exact = λ n. (to n, f
 neighbour_within : (σ : Slabs) (found : List Lot) (m n : ℕ) → AreNeighbours σ found m n → m < length found
 neighbour_within σ found m n step = ((by_sides σ found m n).0 step).0
 
-neighbours_turned : (σ : Slabs) (found : List Lot) (m n : ℕ) → AreNeighbours σ found m n → AreNeighbours σ found n m
+pub neighbours_turned : (σ : Slabs) (found : List Lot) (m n : ℕ) → AreNeighbours σ found m n → AreNeighbours σ found n m
 neighbours_turned σ found m n step =
     let u = and_parts _ _ step in
     let v = and_parts _ _ u.1 in

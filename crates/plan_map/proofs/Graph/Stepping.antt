@@ -33,9 +33,6 @@ pub record IsOnWay (next : ℕ → ℕ → Type 0) (dist : ℕ → Option ℕ) (
   pub whole : (ns : List ℕ) → Descends next dist here ns → DescendsFrom next dist start (taken ++ ns)
 
 module _ {next : ℕ → ℕ → Type 0} {dist : ℕ → Option ℕ} {start : ℕ} where
-  pub way_begins : (left : ℕ) → dist start ≡ Some left → IsOnWay next dist start start left (start ∷ [])
-  way_begins left e = record { distance = e; whole = λ ns d. (refl, d) }
-
   pub way_goes_on : {here left : ℕ} {taken : List ℕ} (n : ℕ) → IsOnWay next dist start here (suc left) taken → IsLeastStep next dist here n → dist n ≡ Some left → IsOnWay next dist start n left (taken ++ n ∷ [])
   way_goes_on {taken = taken} n w s e = record {
     distance = e;

@@ -1,8 +1,8 @@
 -- Lines, marks and spans as they are kept, by number, and what searches in them find.
-use Rattle.std.proofs.Common.{◌≡◌, ℕ, zero, suc, ◌+◌, ◌<◌, ℤ, pos, ◌-ℤ◌, ◌*ℤ◌, ◌<ℤ◌, List, [], ◌∷◌, map, length, get_or, All, Option, Result, MatchOption, int_cmp, Ordering, refl, sym, ap, ◌∙◌, subst, arith}
+use Rattle.std.proofs.Common.{◌≡◌, ℕ, suc, ◌+◌, ◌<◌, ℤ, pos, ◌-ℤ◌, ◌*ℤ◌, ◌<ℤ◌, List, [], ◌∷◌, map, length, get_or, All, Option, Result, MatchOption, int_cmp, Ordering, refl, sym, ap, ◌∙◌, subst, arith}
 use Rattle.std.specs.List.Sorted.{IsBinarySearchResult, IsSearchInRange}
 use Rattle.std.proofs.lemmas.Cmp.{int_ranked}
-use Rattle.std.proofs.lemmas.List.{get_or-map, length-map}
+use Rattle.std.proofs.lemmas.List.{get_or-map}
 use Rattle.plan_exact.specs.Expr.{var, con, ◌⊖◌, ◌⊗◌, neg}
 use Rattle.plan_exact.proofs.Certificates.{eq_from}
 use Rattle.plan_exact.proofs.Laws.{linear}
@@ -20,40 +20,12 @@ use Rattle.plan_slab.specs.EventLines.{IsLine, IsXOf}
 use Rattle.plan_slab.specs.Heights.{IsHeightOn}
 use Rattle.plan_slab.specs.LineMarks.{IsYOf}
 use Rattle.plan_slab.specs.Seen.{line_seen, marks_seen, strand_seen}
-use Rattle.plan_slab.specs.SlabsSeen.{rows_seen}
 use Rattle.plan_slab.specs.Subdivision.{Subdivision, slabs_of}
+use Rattle.plan_slab.proofs.Counts.{line_count, spans_are, span_count, marks_are, mark_count}
 use Rattle.plan_slab.proofs.Regions.Rows.{right_of, above_mark, above_span}
 use Rattle.plan_map.specs.Located.{IsBetween, IsMarkBelow, IsSpanBelow}
 use Rattle.plan_map.proofs.Location.Sinking.{falls_sinks, IsRowOf, IsFound, row_found, drop_found, order_scaled}
 use Rattle.plan_map.proofs.Location.Rows.{lines_fall, marks_sink, spans_sink}
-
--- ---- lists by number
-spans_seen_at : (rows : List (List Strand)) (k : ℕ) → get_or (map (map strand_seen) rows) k [] ≡ map strand_seen (get_or rows k [])
-spans_seen_at [] k = refl
-spans_seen_at (ss ∷ rows) zero = refl
-spans_seen_at (ss ∷ rows) (suc k) = spans_seen_at rows k
-
-marks_seen_at : (ls : List Fraction) (rows : List (List Fraction)) (k : ℕ) (l : Fraction) → k < length ls → get_or (rows_seen ls rows) k [] ≡ marks_seen (get_or ls k l) (get_or rows k [])
-marks_seen_at [] rows k l within = absurd (omega arith)
-marks_seen_at (x ∷ ls) [] k l within = refl
-marks_seen_at (x ∷ ls) (ms ∷ rows) zero l within = refl
-marks_seen_at (x ∷ ls) (ms ∷ rows) (suc k) l within = marks_seen_at ls rows k l (omega arith)
-
-module _ (s : Subdivision) where
-  pub line_count : length (slabs_of s).lines ≡ length s.lines
-  line_count = length-map s.lines line_seen
-
-  pub spans_are : (k : ℕ) → spans_of (slabs_of s) k ≡ map strand_seen (get_or s.spans k [])
-  spans_are k = spans_seen_at s.spans k
-
-  pub span_count : (k : ℕ) → length (spans_of (slabs_of s) k) ≡ length (get_or s.spans k [])
-  span_count k = ap length (spans_are k) ∙ length-map (get_or s.spans k []) strand_seen
-
-  pub marks_are : (k : ℕ) (l : Fraction) → k < length s.lines → marks_of (slabs_of s) k ≡ marks_seen (get_or s.lines k l) (get_or s.marks k [])
-  marks_are k l within = marks_seen_at s.lines s.marks k l within
-
-  pub mark_count : (k : ℕ) → k < length s.lines → length (marks_of (slabs_of s) k) ≡ length (get_or s.marks k [])
-  mark_count k within = ap length (marks_are k (record { num = pos 0; den = pos 0 }) within) ∙ length-map (get_or s.marks k []) (point_at (get_or s.lines k (record { num = pos 0; den = pos 0 })))
 
 pub spot_point : (s : Spot) → IsPoint (spot_seen s)
 spot_point s = omega (arith, linear)

@@ -1,11 +1,11 @@
 -- Between a clear point and one that touches, some point is uncovered and on an edge: the first one at which a block holds.
-use Rattle.std.proofs.Common.{◌≡◌, ◌⊎◌, inl, inr, ⊎_elim, ℤ, pos, ◌≤ℤ◌, ◌<ℤ◌, List, [], map, All, Any, get_or, refl, sym, subst, arith}
+use Rattle.std.proofs.Common.{◌≡◌, ◌⊎◌, inl, inr, ⊎_elim, ℤ, pos, ◌<ℤ◌, List, [], map, All, Any, get_or, refl, sym, subst, arith}
 use Rattle.std.proofs.lemmas.List.Elements.{All-map, All-contains}
 use Rattle.std.specs.List.{flat_map}
 use Rattle.plan_exact.specs.Vectors.{sum, dot}
 use Rattle.plan_exact.proofs.Laws.{linear}
 use Rattle.plan_exact.proofs.RingVectors.{vector_path}
-use Rattle.plan_exact.proofs.Signs.{mul_nonneg, mul_pos, le_of_lt, lt_of_mul, le_or_lt}
+use Rattle.plan_exact.proofs.Signs.{mul_nonneg, mul_pos, le_of_lt, lt_of_mul, lt_of_not_le}
 use Rattle.plan_spec.specs.Vector.{Vector, IsPoint, spot, turn}
 use Rattle.plan_spec.specs.Segment.{Segment, On}
 use Rattle.plan_spec.specs.Polygon.{Inside, edges}
@@ -42,15 +42,9 @@ touched_meets p q ls z h = (held_at_place p q ls z h.0, any_weaker (λ l. value 
 
 room_proper : (sums : List (List Vector)) (lx ly hx hy : ℤ) (p : Vector) → IsPoint p → IsClearOf sums (rectangle lx ly hx hy) p → (lx <ℤ hx) × (ly <ℤ hy)
 room_proper sums lx ly hx hy p hp clear = (
-  lt_of_mul lx hx p.w hp (omega (arith, linear, strict _ _ (λ h. clear.in_room (inl h)), strict _ _ (λ h. clear.in_room (inr (inl h))))),
-  lt_of_mul ly hy p.w hp (omega (arith, linear, strict _ _ (λ h. clear.in_room (inr (inr (inl h)))), strict _ _ (λ h. clear.in_room (inr (inr (inr h)))))),
+  lt_of_mul lx hx p.w hp (omega (arith, linear, lt_of_not_le _ _ (λ h. clear.in_room (inl h)), lt_of_not_le _ _ (λ h. clear.in_room (inr (inl h))))),
+  lt_of_mul ly hy p.w hp (omega (arith, linear, lt_of_not_le _ _ (λ h. clear.in_room (inr (inr (inl h)))), lt_of_not_le _ _ (λ h. clear.in_room (inr (inr (inr h)))))),
 )
-  where
-    strict : (a b : ℤ) → ¬ (a ≤ℤ b) → b <ℤ a
-    strict a b off = elim (le_or_lt a b) [
-      | inl h ↦ absurd (off h)
-      | inr h ↦ h
-    ]
 
 -- a point of a sum at which an edge's covector is 0 is on that edge
 on_some_edge : (vs : List Vector) (z : Vector) → IsSum vs → Meets z (block vs) → Any (λ e. On e z) (edges vs)

@@ -47,3 +47,10 @@ order_y = record {
   apart = λ a b. order_x.apart (flip a) (flip b);
   total = λ a b. order_x.total (flip a) (flip b);
 }
+
+-- ---- another point with the x of one, in its place
+pub before_alike : (a b z : Vector) → IsPoint a → IsPoint b → IsPoint z → SameX a b → LeX a z → LeX b z
+before_alike a b z ha hb hz e h = leX_trans b a z hb ha hz (same_ge a b e) h
+
+pub after_alike : (a b z : Vector) → IsPoint a → IsPoint b → IsPoint z → SameX a b → LeX z a → LeX z b
+after_alike a b z ha hb hz e h = leX_trans z a b hz ha hb h (same_le a b e)

@@ -1,5 +1,5 @@
--- Rising lists: two with the same values are equal place by place, each list has one, and what is between two values of one is a value of it or strictly between two neighbours.
-use Rattle.std.proofs.Common.{◌≡◌, ◌⊎◌, inl, inr, ⊎_elim, ℕ, suc, ◌<◌, List, [], ◌∷◌, length, get_or, All, Any, AllPairs, subst, arith}
+-- Rising lists: two with the same values are equal place by place, and each list has one.
+use Rattle.std.proofs.Common.{◌≡◌, ◌⊎◌, inl, inr, ⊎_elim, suc, List, [], ◌∷◌, length, get_or, All, Any, AllPairs, subst, arith}
 use Rattle.std.specs.List.{AllZip}
 use Rattle.std.proofs.lemmas.List.{get_or_default}
 use Rattle.std.proofs.lemmas.List.Elements.{All-nil, All-cons, All-head, All-tail, length_all_zip}
@@ -23,10 +23,6 @@ pub record IsRisingOf {X : Type 0} (P : X → Type 0) (lt eq : X → X → Type 
   pub rising : AllPairs lt zs
   pub each : All (λ z. Any (eq z) xs) zs
   pub all : All (λ x. Any (eq x) zs) xs
-
--- z is strictly between two neighbours
-abbrev pub BetweenNeighbours : {X : Type 0} → (X → X → Type 0) → List X → X → Type 0
-BetweenNeighbours {X} lt xs z = (k : ℕ) × (suc k < length xs) × ((d : X) → lt (get_or xs k d) z × lt z (get_or xs (suc k) d))
 
 pub rest_after : {X : Type 0} (lt : X → X → Type 0) (x : X) (xs : List X) → AllPairs lt (x ∷ xs) → All (lt x) xs
 rest_after lt x xs h k d within = h 0 (suc k) d (omega arith) (omega arith)
@@ -173,18 +169,3 @@ rising_of {P = P} {eq = eq} o (x ∷ xs) h =
             combined (λ z. P z × Any (eq z) ws) (eq y) (λ z g e. any_through o y z ws hy g.0 i.points e g.1) zs (λ j d below. (r.points j d below, i.keeps j d below)) (r.all k d within));
       },
     )
-
--- ---- where a value is
-beyond : {X : Type 0} {P : X → Type 0} {lt eq : X → X → Type 0} (o : IsOrder P lt eq) (x z : X) → P x → P z → lt x z → ¬ (lt z x ⊎ eq z x)
-beyond o x z hx hz h (inl k) = o.apart x x hx hx (o.less x z x hx hz hx h k) (o.refl x hx)
-beyond o x z hx hz h (inr e) = o.apart x z hx hz h (o.sym z x hz hx e)
-
-pub located : {X : Type 0} {P : X → Type 0} {lt eq : X → X → Type 0} (o : IsOrder P lt eq) (x : X) (xs : List X) (z : X) → P x → All P xs → P z → lt x z → Any (λ y. lt z y ⊎ eq z y) (x ∷ xs) → Any (eq z) (x ∷ xs) ⊎ BetweenNeighbours lt (x ∷ xs) z
-located {P = P} {lt = lt} {eq = eq} o x [] z hx hxs hz h some = ⊎_elim (λ last. absurd (beyond o x z hx hz h last)) (λ n. absurd (any_none (λ y. lt z y ⊎ eq z y) n)) (any_cases (λ y. lt z y ⊎ eq z y) x [] some)
-located {P = P} {lt = lt} {eq = eq} o x (y ∷ ys) z hx hxs hz h some =
-    let hy = All-head P y ys hxs in
-    let hys = All-tail P y ys hxs in
-    ⊎_elim (λ up. inr (0, omega arith, λ d. (h, up))) (λ t. ⊎_elim (λ e. inl (any_there (eq z) x (y ∷ ys) (any_here (eq z) y ys e)))
-    (λ k. ⊎_elim (λ e. inl (any_there (eq z) x (y ∷ ys) e)) (λ (i, within, b). inr (suc i, omega arith, λ d. b d))
-    (located o y ys z hy hys hz k (⊎_elim (λ last. absurd (beyond o x z hx hz h last)) (λ rest. rest) (any_cases (λ y. lt z y ⊎ eq z y) x (y ∷ ys) some)))) t)
-    (o.total z y hz hy)

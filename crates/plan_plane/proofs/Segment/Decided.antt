@@ -34,7 +34,7 @@ le_decided x y = by (le_or_lt x y)
     by (inl h) = inl h
     by (inr h) = inr (λ k. omega (arith, linear))
 
-eq_decided : (x y : ℤ) → Decided (x ≡ y)
+pub eq_decided : (x y : ℤ) → Decided (x ≡ y)
 eq_decided x y = by (order_of x y)
   where
     by : Order x y → Decided (x ≡ y)

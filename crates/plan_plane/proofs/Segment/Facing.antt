@@ -8,7 +8,7 @@ use Rattle.plan_exact.specs.Vectors.{dot, env}
 use Rattle.plan_exact.proofs.Certificates.{eq_from}
 use Rattle.plan_exact.proofs.Laws.{linear}
 use Rattle.plan_exact.proofs.Ring.{ring}
-use Rattle.plan_exact.proofs.Signs.{sign_of, square_nonneg, square_pos, zeros}
+use Rattle.plan_exact.proofs.Signs.{sign_of, not_zero_of_pos, not_zero_of_neg, square_nonneg, square_pos, zeros}
 use Rattle.plan_spec.specs.Vector.{Vector, Same, turn}
 use Rattle.plan_plane.proofs.Segment.Line.{right, above, formal_right, formal_above}
 
@@ -34,18 +34,12 @@ same_from_zeros z a h k = (omega (arith, linear), omega (arith, linear))
 apart_pos : (z a : Vector) → ¬ (Same z a) → pos 0 <ℤ length_of z a
 apart_pos z a apart = by (sign_of (right z a)) (sign_of (above z a))
   where
-    not_zero : {x : ℤ} → pos 0 <ℤ x → ¬ (x ≡ pos 0)
-    not_zero h e = omega (arith, linear)
-
-    not_zero_below : {x : ℤ} → x <ℤ pos 0 → ¬ (x ≡ pos 0)
-    not_zero_below h e = omega (arith, linear)
-
     by : Sign (right z a) → Sign (above z a) → pos 0 <ℤ length_of z a
     by (is_zero e) (is_zero f) = absurd (apart (same_from_zeros z a e f))
-    by (is_positive h) s = omega (arith, linear, square_pos (right z a) (not_zero h), square_nonneg (above z a))
-    by (is_negative h) s = omega (arith, linear, square_pos (right z a) (not_zero_below h), square_nonneg (above z a))
-    by s (is_positive h) = omega (arith, linear, square_pos (above z a) (not_zero h), square_nonneg (right z a))
-    by s (is_negative h) = omega (arith, linear, square_pos (above z a) (not_zero_below h), square_nonneg (right z a))
+    by (is_positive h) s = omega (arith, linear, square_pos (right z a) (not_zero_of_pos h), square_nonneg (above z a))
+    by (is_negative h) s = omega (arith, linear, square_pos (right z a) (not_zero_of_neg h), square_nonneg (above z a))
+    by s (is_positive h) = omega (arith, linear, square_pos (above z a) (not_zero_of_pos h), square_nonneg (right z a))
+    by s (is_negative h) = omega (arith, linear, square_pos (above z a) (not_zero_of_neg h), square_nonneg (right z a))
 
 pub facing_to : (z a : Vector) → ¬ (Same z a) → pos 0 <ℤ dot (facing z a) a
 facing_to z a apart = omega (arith, linear, facing_to_is z a, apart_pos z a apart)

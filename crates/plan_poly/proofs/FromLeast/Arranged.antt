@@ -11,6 +11,7 @@ use Rattle.plan_spec.specs.Triangulation.{from_least}
 use Rattle.plan_grid.specs.declared.bounds.TheConstants.{MOST_CORNER}
 use Rattle.plan_grid.specs.declared.spot.Spot.{Spot}
 use Rattle.plan_grid.specs.Spot.{spot_seen, spots_seen, IsWithin}
+use Rattle.plan_grid.proofs.Spots.{corner}
 use Rattle.plan_plane.proofs.Backwards.{all_back, back_is}
 use Rattle.plan_plane.proofs.Lists.{all_left, all_right}
 use Rattle.plan_poly.specs.Polygon.{IsSimpleList, IsPolygon, IsRotation, IsRead}
@@ -18,7 +19,7 @@ use Rattle.plan_poly.proofs.EvenOdd.Orders.{reverse_seen, same_points}
 use Rattle.plan_poly.proofs.FromLeast.Kept.{Left, as_it_is, the_other_way, from_least_is}
 use Rattle.plan_poly.proofs.Loop.Loop.{Loop}
 use Rattle.plan_poly.proofs.Loop.Simple.{simple_loop, loop_simple}
-use Rattle.plan_poly.proofs.Spots.{vertex, count_seen, points_seen}
+use Rattle.plan_poly.proofs.Spots.{count_seen, points_seen}
 
 -- ---- the other way round, from the same first spot
 abbrev pub flip : List Spot → List Spot
@@ -67,17 +68,17 @@ flip_seen : (v : Spot) (vs : List Spot) → spots_seen (flip (v ∷ vs)) ≡ spo
 flip_seen v vs = ap (λ zs. spot_seen v ∷ zs) (reverse_seen vs)
 
 -- ---- the turn at the first spot
-last_seen : (c : Spot) (rest : List Spot) → spot_seen (vertex (c ∷ rest) (length rest)) ≡ last (spot_seen c) (spots_seen rest)
+last_seen : (c : Spot) (rest : List Spot) → spot_seen (corner (c ∷ rest) (length rest)) ≡ last (spot_seen c) (spots_seen rest)
 last_seen c [] = refl
 last_seen c (d ∷ rest) = last_seen d rest
 
 abbrev pub turn_at_first : List Spot → Type 0
-turn_at_first s = turn (spot_seen (vertex s (length s - 1))) (spot_seen (vertex s 0)) (spot_seen (vertex s 1)) <ℤ pos 0
+turn_at_first s = turn (spot_seen (corner s (length s - 1))) (spot_seen (corner s 0)) (spot_seen (corner s 1)) <ℤ pos 0
 
-turn_seen : (a b c : Spot) (rest : List Spot) → turn (spot_seen (vertex (a ∷ b ∷ c ∷ rest) (length (a ∷ b ∷ c ∷ rest) - 1))) (spot_seen a) (spot_seen b) ≡ turn (last (spot_seen c) (spots_seen rest)) (spot_seen a) (spot_seen b)
+turn_seen : (a b c : Spot) (rest : List Spot) → turn (spot_seen (corner (a ∷ b ∷ c ∷ rest) (length (a ∷ b ∷ c ∷ rest) - 1))) (spot_seen a) (spot_seen b) ≡ turn (last (spot_seen c) (spots_seen rest)) (spot_seen a) (spot_seen b)
 turn_seen a b c rest =
     let n : length (a ∷ b ∷ c ∷ rest) - 1 ≡ suc (suc (length rest)) = omega arith in
-    (λ i. turn (spot_seen (vertex (a ∷ b ∷ c ∷ rest) (n i))) (spot_seen a) (spot_seen b)) ∙ ap (λ u. turn u (spot_seen a) (spot_seen b)) (last_seen c rest)
+    (λ i. turn (spot_seen (corner (a ∷ b ∷ c ∷ rest) (n i))) (spot_seen a) (spot_seen b)) ∙ ap (λ u. turn u (spot_seen a) (spot_seen b)) (last_seen c rest)
 
 -- ---- as a loop
 pub loop_of : {given : List Spot} → IsSimpleList given → Loop (spots_seen given)

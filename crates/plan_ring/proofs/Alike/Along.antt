@@ -11,6 +11,7 @@ use Rattle.plan_exact.proofs.Signs.{signs, zeros, zero_or_zero}
 use Rattle.plan_exact.proofs.Vectors.{dot_opposite, cross_on_right}
 use Rattle.plan_spec.specs.Vector.{Vector, IsPoint, LtX, SameX, Same, Before, turn}
 use Rattle.plan_spec.specs.Segment.{Segment, segment, HasPoints, On}
+use Rattle.plan_plane.proofs.Rising.ByPoint.{order_before, before_once, same_of}
 use Rattle.plan_plane.proofs.Segment.AtEnds.{first_weight, second_weight, pos_by_first, pos_by_second}
 use Rattle.plan_plane.proofs.Segment.Between.{Between, between_same, flip, on, right_of, right_of_is, swapped, zero_at}
 use Rattle.plan_plane.proofs.Segment.ByX.{between_one}
@@ -19,7 +20,6 @@ use Rattle.plan_plane.proofs.Segment.Middle.{Middle, first, second, third, middl
 use Rattle.plan_plane.proofs.Segment.Same.{Same-swapped, Same-trans}
 use Rattle.plan_plane.proofs.Segment.SameSign.{zero_same}
 use Rattle.plan_plane.proofs.Segment.Whether.{same_or_not}
-use Rattle.plan_ring.proofs.Alike.Order.{order_before, before_once}
 
 -- ---- between two points
 -- right of the first where the second is and has a weight
@@ -101,13 +101,10 @@ all_in_line s x y z hs hx hy hz ox oy oz =
 pub on_between : (s : Segment) (x y z : Vector) → HasPoints s → IsPoint x → IsPoint y → IsPoint z → On s x → On s y → On s z → ¬ (Before z x) → ¬ (Before y z) → On (segment x y) z
 on_between s x y z hs hx hy hz ox oy oz up down = on (by (middle x y z hx hy hz (all_in_line s x y z hs hx hy hz ox oy oz)))
   where
-    same : (p q : Vector) → IsPoint p → IsPoint q → ¬ (Before p q) → ¬ (Before q p) → Same p q
-    same p q hp hq h k = ⊎_elim (λ l. absurd (h l)) (λ t. ⊎_elim (λ e. e) (λ l. absurd (k l)) t) (order_before.total p q hp hq)
-
     by : Middle x y z → Between x y z
     by (third b) = b
-    by (first b) = between_same x y z hx hz (Same-swapped z x (same z x hz hx up (not_before_first hz hy hx (swapped b) down)))
-    by (second b) = swapped (between_same y x z hy hz (same y z hy hz down (not_behind_second hx hz hy b up)))
+    by (first b) = between_same x y z hx hz (Same-swapped z x (same_of z x hz hx up (not_before_first hz hy hx (swapped b) down)))
+    by (second b) = swapped (between_same y x z hy hz (same_of y z hy hz down (not_behind_second hx hz hy b up)))
 
 -- ---- strictly between two points there is one
 pub record Strictly (x y : Vector) : Type 0 where

@@ -24,7 +24,7 @@ same_alike p q u v hp hq hu hv e f = same_from_decides (same p q) (same u v) (sa
     over : (p q u v : Vector) → IsPoint p → IsPoint q → Same p u → Same q v → Same p q → Same u v
     over p q u v hp hq e f k = Same-trans u p v hp (Same-swapped p u e) (Same-trans p q v hq k f)
 
-left_alike : (p u : Vector) (qs vs : List Vector) → IsPoint p → IsPoint u → All IsPoint qs → All IsPoint vs → Same p u → AllZip Same qs vs → AllZip Same (without_repeats p qs) (without_repeats u vs)
+pub left_alike : (p u : Vector) (qs vs : List Vector) → IsPoint p → IsPoint u → All IsPoint qs → All IsPoint vs → Same p u → AllZip Same qs vs → AllZip Same (without_repeats p qs) (without_repeats u vs)
 left_alike p u [] [] hp hu hq hv e h = tt
 left_alike p u [] (v ∷ vs) hp hu hq hv e h = absurd h
 left_alike p u (q ∷ qs) [] hp hu hq hv e h = absurd h
@@ -57,7 +57,7 @@ left_points p (q ∷ qs) h = by (same p q) (left_points p qs (All-tail IsPoint q
     by false drop stay = All-cons IsPoint q (without_repeats q qs) (All-head IsPoint q qs h) stay
 
 -- ---- the path along a walk
-stops_points : (spot : ℕ → Vector) (walk : List ℕ) → All (λ n. IsPoint (spot n)) walk → All IsPoint (stops spot walk)
+pub stops_points : (spot : ℕ → Vector) (walk : List ℕ) → All (λ n. IsPoint (spot n)) walk → All IsPoint (stops spot walk)
 stops_points spot [] h = All-nil IsPoint
 stops_points spot (n ∷ []) h = All-nil IsPoint
 stops_points spot (m ∷ (n ∷ ns)) h = mapped (m ∷ (n ∷ ns)) h

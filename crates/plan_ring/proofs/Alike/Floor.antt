@@ -5,7 +5,7 @@ use Rattle.std.proofs.lemmas.List.Elements.{All-nil, All-cons, All-head, All-tai
 use Rattle.std.specs.List.{AllZip}
 use Rattle.plan_exact.specs.Expr.{var, con, ◌⊕◌, ◌⊗◌, neg}
 use Rattle.plan_exact.specs.Formal as F
-use Rattle.plan_exact.specs.Formal.{A, B, J, K}
+use Rattle.plan_exact.specs.Formal.{A}
 use Rattle.plan_exact.specs.Vectors.{sum, scaled, dot, cross, env}
 use Rattle.plan_exact.proofs.Laws.{linear}
 use Rattle.plan_exact.proofs.Ring.{ring}

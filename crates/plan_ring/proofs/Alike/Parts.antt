@@ -6,13 +6,13 @@ use Rattle.plan_spec.specs.Vector.{Vector, IsPoint, Same, Before}
 use Rattle.plan_spec.specs.Segment.{Segment, HasPoints, On}
 use Rattle.plan_spec.specs.Pieces.{IsPartOf}
 use Rattle.plan_plane.proofs.Lists.{any_here, any_there, any_cases, any_none, any_with}
+use Rattle.plan_plane.proofs.Rising.ByPoint.{order_before, before_once, same_of}
 use Rattle.plan_plane.proofs.Rising.Lists.{rest_after, rising_tail}
 use Rattle.plan_plane.proofs.Segment.Between.{between, between_first, between_second, on}
 use Rattle.plan_plane.proofs.Segment.Part.{on_part_of}
 use Rattle.plan_plane.proofs.Segment.Same.{Same-swapped}
 use Rattle.plan_ring.specs.Alike.{AlikeSegment}
 use Rattle.plan_ring.proofs.Alike.Along.{not_before_first, not_behind_second, on_between, Strictly, strictly_between}
-use Rattle.plan_ring.proofs.Alike.Order.{order_before, before_once}
 
 -- parts of e, one after another
 pub record AreParts (e : Segment) (ps : List Segment) : Type 0 where
@@ -29,9 +29,6 @@ at_most_less x y z hx hy hz h k = ⊎_elim (λ l. order_before.less x y z hx hy 
 
 less_at_most : (x y z : Vector) → IsPoint x → IsPoint y → IsPoint z → Before x y → ¬ (Before z y) → Before x z
 less_at_most x y z hx hy hz h k = ⊎_elim (λ l. order_before.less x y z hx hy hz h l) (λ t. ⊎_elim (λ e. order_before.less_equal x y z hx hy hz h e) (λ l. absurd (k l)) t) (order_before.total y z hy hz)
-
-same_of : (x y : Vector) → IsPoint x → IsPoint y → ¬ (Before x y) → ¬ (Before y x) → Same x y
-same_of x y hx hy h k = ⊎_elim (λ l. absurd (h l)) (λ t. ⊎_elim (λ e. e) (λ l. absurd (k l)) t) (order_before.total x y hx hy)
 
 -- ---- one part
 module _ {e p : Segment} (h : IsPartOf e p) where
@@ -69,9 +66,6 @@ module _ (e : Segment) (he : HasPoints e) where
   from_first {p} {ps} z hz h held =
       let hp = head h in
       ⊎_elim (λ o. from_begin hp z hz o) (λ later less. before_once p.a z (at_most_less p.a p.b z hp.points.0 hp.points.1 hz hp.onward (behind z hz h later)) less) (any_cases (λ s. On s z) p ps held)
-
-  on_edge : {p : Segment} (z : Vector) → IsPoint z → IsPartOf e p → On p z → On e z
-  on_edge {p} z hz h o = on_part_of e p z he h.points hz h.from h.to o
 
   -- ---- two rows: what the one holds, the other holds
   -- the one does not begin before the other

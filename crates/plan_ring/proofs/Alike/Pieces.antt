@@ -58,9 +58,6 @@ numbered_alike k (ps ∷ parts) (qs ∷ rest) h =
     zip_append AlikePiece (map (piece k) ps) (map (piece k) qs) (numbered (suc k) parts) (numbered (suc k) rest) (zip_mapped AlikeSegment AlikePiece (piece k) (piece k) (λ p q e. (refl, e)) ps qs h.0) (numbered_alike (suc k) parts rest h.1)
 
 -- ---- all pieces
-floor_alike : {sums others : List (List Vector)} {room : Frame} → AreAlike sums others → IsFloor sums room → IsFloor others room
-floor_alike h floor = record { are_sums = h.other; spots = floor.spots }
-
 points_of_edges : {sums : List (List Vector)} {room : Frame} → IsFloor sums room → All HasPoints (boundary sums room)
 points_of_edges {sums} {room} floor = All-weaker (Contains (boundary sums room)) HasPoints (λ e is. edge_points floor e is) (boundary sums room) (All-contains_itself (boundary sums room))
 

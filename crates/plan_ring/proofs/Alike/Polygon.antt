@@ -10,10 +10,10 @@ use Rattle.plan_spec.specs.Polygon.{EndOrLeft, edges, edges_to}
 use Rattle.plan_plane.proofs.Lists.{any_cases, any_with}
 use Rattle.plan_plane.proofs.Boundary.Sum.{IsSum, EdgeOf, edge_of, vertex_side}
 use Rattle.plan_plane.proofs.Polygon.Numbered.{length_edges, edge_next, edge_last}
+use Rattle.plan_plane.proofs.Rising.ByPoint.{order_before, before_once}
 use Rattle.plan_plane.proofs.Segment.Same.{Same-swapped, Same-trans}
 use Rattle.plan_plane.proofs.Segment.SameSign.{pos_same}
 use Rattle.plan_ring.specs.Alike.{AlikePoints}
-use Rattle.plan_ring.proofs.Alike.Order.{order_before, before_once}
 use Rattle.plan_ring.proofs.Alike.Vertices.{HoldAlike, apart, vertices_alike}
 
 -- ---- the side of a line, by positions

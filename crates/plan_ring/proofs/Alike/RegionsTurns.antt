@@ -8,7 +8,7 @@ use Rattle.plan_exact.proofs.Certificates.{eq_from}
 use Rattle.plan_exact.proofs.Laws.{linear, mul_comm}
 use Rattle.plan_exact.proofs.Ring.{ring}
 use Rattle.plan_exact.proofs.RingVectors.{ring_vectors, vector_path}
-use Rattle.plan_exact.proofs.Signs.{zeros, le_or_lt, mul_pos, mul_pos_neg, mul_of_zero, pos_of_mul, neg_of_mul, zero_of_mul}
+use Rattle.plan_exact.proofs.Signs.{zeros, le_or_lt, mul_pos, mul_pos_neg, pos_of_mul, neg_of_mul}
 use Rattle.plan_exact.proofs.Tests.{lt_true, lt_false}
 use Rattle.plan_spec.specs.Vector.{Vector, IsPoint, Same, turn}
 use Rattle.plan_spec.specs.Segment.{Segment, segment, HasPoints}
@@ -64,9 +64,6 @@ turn_pos h k = let p = mul_pos (weight (swapped h)) k in pos_of_mul (weight h) (
 pub turn_neg : {a b c u v z : Vector} → AlikeTurns a b c u v z → turn a b c <ℤ pos 0 → turn u v z <ℤ pos 0
 turn_neg h k = let p = mul_pos_neg (weight (swapped h)) k in neg_of_mul (weight h) (omega (arith, linear, p, ratio h))
 
-pub turn_zero : {a b c u v z : Vector} → AlikeTurns a b c u v z → turn a b c ≡ pos 0 → turn u v z ≡ pos 0
-turn_zero {a} {b} {c} {u} {v} {z} h k = zero_of_mul (a.w *ℤ b.w *ℤ c.w) (turn u v z) (weight h) (omega (arith, linear, mul_of_zero (u.w *ℤ v.w *ℤ z.w) (turn a b c) k, ratio h))
-
 pub turn_below : {a b c u v z : Vector} → AlikeTurns a b c u v z → int_lt (turn a b c) (pos 0) ≡ int_lt (turn u v z) (pos 0)
 turn_below {a} {b} {c} {u} {v} {z} h = by (le_or_lt (pos 0) (turn a b c)) (le_or_lt (pos 0) (turn u v z))
   where
@@ -96,9 +93,6 @@ halfway_alike u v y z hy hz e f =
 -- the foot on a segment, times the weights of the other's ends
 feet : (s t : Segment) (m : Vector) → AlikeSegment s t → scaled (t.a.w *ℤ t.b.w) (foot s m) ≡ scaled (s.a.w *ℤ s.b.w) (foot t m)
 feet s t m e = sym (foot_scaled t.a.w t.b.w s.a s.b m) ∙ ap₂ (λ a b. foot (segment a b) m) (times_weights s.a t.a e.0) (times_weights s.b t.b e.1) ∙ foot_scaled s.a.w s.b.w t.a t.b m
-
-pub foot_alike : (s t : Segment) (m : Vector) → HasPoints t → AlikeSegment s t → Same (foot s m) (foot t m)
-foot_alike s t m ht e = same_from_multiples (t.a.w *ℤ t.b.w) (s.a.w *ℤ s.b.w) (foot s m) (foot t m) (mul_pos ht.0 ht.1) (feet s t m e)
 
 pub cell_alike : (l r : Vector) (s t u v : Segment) → HasPoints u → HasPoints v → AlikeSegment s u → AlikeSegment t v → Same (cell_spot l r s t) (cell_spot l r u v)
 cell_alike l r s t u v hu hv e f =

@@ -1,12 +1,13 @@
 -- Slabs that are alike by position: the same lines, and spans and marks with the same positions place by place; by number, beyond the ends of lists too.
 use Rattle.std.proofs.Common.{◌≡◌, ℕ, length, get_or, All, refl, ap, arith}
 use Rattle.std.specs.List.{AllZip}
+use Rattle.std.proofs.lemmas.List.Elements.{length_all_zip}
 use Rattle.plan_exact.proofs.Laws.{linear}
 use Rattle.plan_spec.specs.Vector.{IsPoint, Same}
 use Rattle.plan_spec.specs.Segment.{HasPoints}
 use Rattle.plan_spec.specs.Slabs.{nowhere, nothing, Slabs, line_at, spans_of, span_at, marks_of, mark_at}
 use Rattle.plan_ring.specs.Alike.{AlikeSegment}
-use Rattle.plan_ring.proofs.Alike.SlabsLists.{zip_at, zip_long, all_at}
+use Rattle.plan_ring.proofs.Alike.SlabsLists.{zip_at, all_at}
 
 pub record AlikeSlabs (σ τ : Slabs) : Type 0 where
   pub lines : σ.lines ≡ τ.lines
@@ -34,7 +35,7 @@ module _ {σ τ : Slabs} (a : AlikeSlabs σ τ) where
   mark_ends k j = (all_at IsPoint (marks_of σ k) nowhere (omega (arith, linear)) (a.mark_points k).0 j, all_at IsPoint (marks_of τ k) nowhere (omega (arith, linear)) (a.mark_points k).1 j)
 
   pub spans_long : (k : ℕ) → length (spans_of σ k) ≡ length (spans_of τ k)
-  spans_long k = zip_long AlikeSegment (spans_of σ k) (spans_of τ k) (a.spans k)
+  spans_long k = length_all_zip AlikeSegment (spans_of σ k) (spans_of τ k) (a.spans k)
 
   pub marks_long : (k : ℕ) → length (marks_of σ k) ≡ length (marks_of τ k)
-  marks_long k = zip_long Same (marks_of σ k) (marks_of τ k) (a.marks k)
+  marks_long k = length_all_zip Same (marks_of σ k) (marks_of τ k) (a.marks k)

@@ -1,6 +1,7 @@
 -- Two lists of sums of one scene with their pieces, alike by position: what reaches, lies and marks the same.
 use Rattle.std.proofs.Common.{◌≡◌, ◌⊎◌, inl, inr, ◌↔◌, ℕ, ◌*ℤ◌, Bool, true, false, cond, int_lt, List, length, refl, sym, subst, ◌∙◌, arith}
 use Rattle.std.specs.List.{AllZip}
+use Rattle.std.proofs.lemmas.List.Elements.{length_all_zip}
 use Rattle.plan_exact.specs.Vectors.{cross}
 use Rattle.plan_exact.proofs.Laws.{linear}
 use Rattle.plan_exact.proofs.Signs.{le_or_lt}
@@ -11,15 +12,14 @@ use Rattle.plan_spec.specs.Frame.{Frame}
 use Rattle.plan_spec.specs.Boundary.{IsClearOf, boundary}
 use Rattle.plan_spec.specs.Pieces.{Piece, piece}
 use Rattle.plan_spec.specs.Slabs.{nothing, piece_at, edge_of, Reaches, LiesOn, rightward, IsMark}
-use Rattle.plan_plane.proofs.Rising.ByCoordinate.{order_x}
-use Rattle.plan_plane.proofs.Segment.ByX.{leX_trans}
+use Rattle.plan_plane.proofs.Rising.ByCoordinate.{order_x, before_alike, after_alike}
 use Rattle.plan_plane.proofs.Segment.Same.{Same-trans}
 use Rattle.plan_plane.proofs.Segment.SameSign.{zero_same}
 use Rattle.plan_slab.proofs.Pieces.{HasPieces}
 use Rattle.plan_ring.specs.Alike.{AlikeSegment, AlikePiece, AlikePieces}
 use Rattle.plan_ring.proofs.Alike.Boundary.{segment_swapped}
 use Rattle.plan_ring.proofs.Alike.Pieces.{on_alike}
-use Rattle.plan_ring.proofs.Alike.SlabsLists.{zip_at, zip_long}
+use Rattle.plan_ring.proofs.Alike.SlabsLists.{zip_at}
 
 pub record AlikeGround (vs ws : List (List Vector)) (room : Frame) (ps qs : List Piece) : Type 0 where
   pub first : HasPieces vs room ps
@@ -29,12 +29,6 @@ pub record AlikeGround (vs ws : List (List Vector)) (room : Frame) (ps qs : List
   pub clear : (z : Vector) → IsPoint z → IsClearOf vs room z ↔ IsClearOf ws room z
 
 -- ---- by x
-pub before_alike : (a b z : Vector) → IsPoint a → IsPoint b → IsPoint z → SameX a b → LeX a z → LeX b z
-before_alike a b z ha hb hz e h = let f : LeX b a = omega (arith, linear) in leX_trans b a z hb ha hz f h
-
-pub after_alike : (a b z : Vector) → IsPoint a → IsPoint b → IsPoint z → SameX a b → LeX z a → LeX z b
-after_alike a b z ha hb hz e h = let f : LeX a b = omega (arith, linear) in leX_trans z a b hz ha hb h f
-
 pub less_alike : (a b u v : Vector) → IsPoint a → IsPoint b → IsPoint u → IsPoint v → SameX a u → SameX b v → LtX a b → LtX u v
 less_alike a b u v ha hb hu hv e f h = order_x.less_equal u b v hu hb hv (order_x.equal_less u a b hu ha hb (sym e) h) f
 
@@ -90,4 +84,4 @@ module _ {vs ws : List (List Vector)} {room : Frame} {ps qs : List Piece} (g : A
   piece_alike n = zip_at AlikePiece ps qs (piece 0 nothing) (piece 0 nothing) (refl, ((refl, refl), (refl, refl))) g.pieces n
 
   pub as_many : length ps ≡ length qs
-  as_many = zip_long AlikePiece ps qs g.pieces
+  as_many = length_all_zip AlikePiece ps qs g.pieces

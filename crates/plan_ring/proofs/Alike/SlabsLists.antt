@@ -1,5 +1,5 @@
 -- Lists that correspond place by place, equal ones among them, and rising lists of numbers with the same members.
-use Rattle.std.proofs.Common.{◌≡◌, ◌⊎◌, ◌↔◌, inl, inr, ℕ, zero, suc, ◌<◌, List, [], ◌∷◌, ◌++◌, All, AllPairs, Any, Contains, get_or, length, map, sum_by, refl, sym, ap, ap₂, ◌∙◌, subst, arith}
+use Rattle.std.proofs.Common.{◌≡◌, ◌⊎◌, ◌↔◌, inl, inr, ℕ, zero, suc, ◌<◌, List, [], ◌∷◌, ◌++◌, All, AllPairs, Any, Contains, get_or, length, map, sum_by, refl, sym, ap₂, ◌∙◌, subst, arith}
 use Rattle.std.specs.List.{AllZip, flat_map}
 use Rattle.std.proofs.lemmas.Bool.{cases_lt, cases_eq}
 use Rattle.std.proofs.lemmas.List.{get_or_past}
@@ -13,12 +13,6 @@ zip_at R [] (y ∷ ys) d e r h k = absurd h
 zip_at R (x ∷ xs) [] d e r h k = absurd h
 zip_at R (x ∷ xs) (y ∷ ys) d e r h zero = h.0
 zip_at R (x ∷ xs) (y ∷ ys) d e r h (suc k) = zip_at R xs ys d e r h.1 k
-
-pub zip_long : {X Y : Type 0} (R : X → Y → Type 0) (xs : List X) (ys : List Y) → AllZip R xs ys → length xs ≡ length ys
-zip_long R [] [] h = refl
-zip_long R [] (y ∷ ys) h = absurd h
-zip_long R (x ∷ xs) [] h = absurd h
-zip_long R (x ∷ xs) (y ∷ ys) h = ap suc (zip_long R xs ys h.1)
 
 -- each element has P, and so has what is read beyond the end
 pub all_at : {X : Type 0} (P : X → Type 0) (xs : List X) (d : X) → P d → All P xs → (k : ℕ) → P (get_or xs k d)

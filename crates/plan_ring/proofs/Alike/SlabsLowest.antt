@@ -1,12 +1,12 @@
 -- Slabs do not depend on the triples of their lines: each line has a point in lowest terms, and by these the slabs are slabs too.
-use Rattle.std.proofs.Common.{◌≡◌, ◌⊎◌, inl, inr, ⊎_elim, ℕ, zero, suc, ◌*◌, ◌/◌, ◌%◌, ◌<◌, ◌≤◌, ℤ, pos, ◌*ℤ◌, ◌≤ℤ◌, ◌<ℤ◌, neg_ℤ, unsigned_abs, List, [], ◌∷◌, length, get_or, All, Any, refl, sym, ap, ◌∙◌, subst, arith}
+use Rattle.std.proofs.Common.{◌≡◌, ◌⊎◌, inl, inr, ⊎_elim, ℕ, suc, ◌*◌, ◌/◌, ◌<◌, ℤ, pos, ◌*ℤ◌, ◌≤ℤ◌, ◌<ℤ◌, neg_ℤ, unsigned_abs, List, [], ◌∷◌, length, get_or, All, Any, refl, sym, ap, ◌∙◌, subst, arith}
 use Rattle.std.specs.Int.{IsGcd, ◌∣◌}
 use Rattle.std.specs.List.{AllZip}
 use Rattle.std.proofs.lemmas.Int.{ints}
-use Rattle.std.proofs.lemmas.Nat.Gcd.{IsGcd-from_zero, IsGcd-from_mod, mod-eq-zero_of_dvd}
+use Rattle.std.proofs.lemmas.Nat.Gcd.{mod-eq-zero_of_dvd}
 use Rattle.std.proofs.Math.Nat.{div-add-mod', mul-dvd-mul_left, dvd_of_mul-dvd-mul_left, eq-one_of_dvd-one}
 use Rattle.std.proofs.lemmas.List.{get_or_default}
-use Rattle.std.proofs.lemmas.List.Elements.{All-nil, All-cons, All-head, All-tail}
+use Rattle.std.proofs.lemmas.List.Elements.{All-nil, All-cons, All-head, All-tail, length_all_zip}
 use Rattle.plan_exact.specs.Expr.{var, ◌⊗◌}
 use Rattle.plan_exact.proofs.Laws.{linear, mul_comm}
 use Rattle.plan_exact.proofs.Ring.{ring}
@@ -18,22 +18,15 @@ use Rattle.plan_spec.specs.Maps.{IsLowestLine}
 use Rattle.plan_spec.specs.Pieces.{Piece, piece}
 use Rattle.plan_spec.specs.Slabs.{nowhere, piece_at, Reaches, AreLines, AreSpans, AreMarks, Slabs, AreSlabs, line_at, spans_of, marks_of}
 use Rattle.plan_grid.proofs.Lowest.{divisor_is_positive}
+use Rattle.plan_grid.proofs.Unique.{gcd_exists}
 use Rattle.plan_plane.proofs.Lists.{any_with}
-use Rattle.plan_plane.proofs.Rising.ByCoordinate.{order_x}
+use Rattle.plan_plane.proofs.Rising.ByCoordinate.{order_x, before_alike, after_alike}
 use Rattle.plan_slab.proofs.ByNumber.{at_number}
 use Rattle.plan_slab.proofs.Pieces.{HasPieces}
-use Rattle.plan_ring.proofs.Alike.SlabsLists.{zip_at, zip_long}
-use Rattle.plan_ring.proofs.Alike.SlabsGround.{before_alike, after_alike, less_alike}
+use Rattle.plan_ring.proofs.Alike.SlabsLists.{zip_at}
+use Rattle.plan_ring.proofs.Alike.SlabsGround.{less_alike}
 
 -- ---- a point in lowest terms
-gcd_exists : (n a b : ℕ) → b ≤ n → (g : ℕ) × IsGcd a b g
-gcd_exists n a zero h = (a, IsGcd-from_zero a 0 refl)
-gcd_exists zero a (suc b) h = absurd (omega arith)
-gcd_exists (suc n) a (suc b) h =
-    let below : a % suc b ≤ n = omega arith in
-    let rest = gcd_exists n (suc b) (a % suc b) below in
-    (rest.0, IsGcd-from_mod a (suc b) rest.0 rest.1)
-
 -- x and w over their greatest common divisor
 record IsReduced (x w y v : ℤ) : Type 0 where
   positive : pos 0 <ℤ v
@@ -141,7 +134,7 @@ module _ (sums : List (List Vector)) (room : Frame) (pieces : List Piece) (point
 
   module _ (ls ns : List Vector) (are : AreLines pieces ls) (r : AreLowest ls ns) where
     long : length ls ≡ length ns
-    long = zip_long SameX ls ns r.same
+    long = length_all_zip SameX ls ns r.same
 
     level : (k : ℕ) (d : Vector) → SameX (get_or ls k d) (get_or ns k d)
     level k d = zip_at SameX ls ns d d refl r.same k
@@ -177,7 +170,7 @@ lowest_slabs {sums} {room} {pieces} known σ are = by (lowest_lines σ.lines are
 
     by : (ns : List Vector) × AreLowest σ.lines ns → (τ : Slabs) × (All IsLowestLine τ.lines × AreSlabs sums room pieces τ)
     by (ns, r) =
-        let count = zip_long SameX σ.lines ns r.same in
+        let count = length_all_zip SameX σ.lines ns r.same in
         let at : (k : ℕ) → SameX (line_at σ k) (get_or ns k nowhere) = λ k. zip_at SameX σ.lines ns nowhere nowhere refl r.same k in (
           record { lines = ns; spans = σ.spans; marks = σ.marks },
           (

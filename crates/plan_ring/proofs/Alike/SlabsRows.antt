@@ -1,31 +1,32 @@
 -- Lines, spans and marks of pieces that are alike: as many, and place by place of one position.
-use Rattle.std.proofs.Common.{◌≡◌, ◌⊎◌, inl, inr, ℕ, ◌<◌, ◌≤◌, pos, List, length, get_or, All, AllPairs, Any, refl, sym, subst, ◌∙◌, arith}
+use Rattle.std.proofs.Common.{◌≡◌, ◌⊎◌, inl, inr, ℕ, ◌<◌, ◌≤◌, List, length, get_or, All, AllPairs, Any, refl, sym, subst, ◌∙◌, arith}
 use Rattle.std.specs.List.{AllZip}
 use Rattle.std.proofs.lemmas.Bool.{cases_lt}
 use Rattle.std.proofs.lemmas.List.{get_or_default}
-use Rattle.plan_exact.proofs.Laws.{linear}
-use Rattle.plan_spec.specs.Vector.{Vector, IsPoint, Same, SameX, turn}
+use Rattle.std.proofs.lemmas.List.Elements.{length_all_zip}
+use Rattle.plan_spec.specs.Vector.{Vector, IsPoint, Same, SameX}
 use Rattle.plan_spec.specs.Segment.{Segment, HasPoints}
 use Rattle.plan_spec.specs.Frame.{Frame}
 use Rattle.plan_spec.specs.Boundary.{boundary}
 use Rattle.plan_spec.specs.Pieces.{Piece, piece}
-use Rattle.plan_spec.specs.Regions.{foot, mediant}
-use Rattle.plan_spec.specs.Slabs.{nothing, piece_at, edge_of, InSlab, Reaches, LiesOn, Below, rightward, IsMark, AreLines, AreSpans, AreMarks}
+use Rattle.plan_spec.specs.Regions.{mediant}
+use Rattle.plan_spec.specs.Slabs.{nothing, piece_at, edge_of, InSlab, Reaches, LiesOn, rightward, IsMark, AreLines, AreSpans, AreMarks}
 use Rattle.plan_plane.proofs.Lists.{any_with}
 use Rattle.plan_plane.proofs.Rising.ByCoordinate.{order_x}
 use Rattle.plan_plane.proofs.Rising.Lists.{same_rising}
 use Rattle.plan_slab.specs.Levels.{Lower, Level}
 use Rattle.plan_slab.proofs.ByNumber.{at_number}
 use Rattle.plan_slab.proofs.Order.Across.{IsSlab}
-use Rattle.plan_slab.proofs.Order.Feet.{Runs, by_height, foot_point, foot_in_line, foot_level, mediant_inside, mediant_point}
-use Rattle.plan_slab.proofs.Order.OneOrder.{IsStrand, is_strand, run_pos, foot_inside, lies_level}
+use Rattle.plan_slab.proofs.Order.Feet.{Runs, by_height, mediant_inside, mediant_point}
+use Rattle.plan_slab.proofs.Order.OneOrder.{IsStrand, is_strand, run_pos, lies_level}
 use Rattle.plan_slab.proofs.Pieces.{HasPieces}
 use Rattle.plan_slab.proofs.Regions.SpanLines.{has_piece}
 use Rattle.plan_slab.proofs.Sorted.Marks.{on_line}
+use Rattle.plan_slab.proofs.Sorted.Size.{below_lower}
 use Rattle.plan_ring.specs.Alike.{AlikeSegment, AlikePiece}
 use Rattle.plan_ring.proofs.Alike.Boundary.{segment_swapped}
 use Rattle.plan_ring.proofs.Alike.SlabsGround.{AlikeGround, rightward_points, rightward_alike, reaches_alike, lies_alike, mark_of_alike, edge_alike, swapped_piece, piece_alike, as_many}
-use Rattle.plan_ring.proofs.Alike.SlabsLists.{zip_at, zip_long, zip_from, zip_swapped}
+use Rattle.plan_ring.proofs.Alike.SlabsLists.{zip_at, zip_from, zip_swapped}
 
 pub swapped : {vs ws : List (List Vector)} {room : Frame} {ps qs : List Piece} → AlikeGround vs ws room ps qs → AlikeGround ws vs room qs ps
 swapped {vs} {ws} {room} {ps} {qs} g = record {
@@ -37,12 +38,6 @@ swapped {vs} {ws} {room} {ps} {qs} g = record {
 }
 
 -- ---- the spans of one list of pieces
-below_lower : {l r : Vector} (s t : Segment) (m : Vector) → IsSlab l r → Runs t → IsPoint m → InSlab l r m → Below l r s t → Lower m s t
-below_lower {l} {r} s t m slab ht hm im below =
-    let on : turn t.a t.b (foot t m) ≡ pos 0 = foot_in_line t m in
-    let g = below (foot t m) (foot_point t m ht hm) (foot_inside l r t m slab ht hm im) (omega (arith, linear, on)) in
-    omega (arith, linear, g, foot_level t s m)
-
 module _ {sums : List (List Vector)} {room : Frame} {pieces : List Piece} (known : HasPieces sums room pieces) (l r : Vector) (slab : IsSlab l r) (ss : List Segment) (are : AreSpans sums room pieces l r ss) where
   spans_run : All Runs ss
   spans_run k d within = run_pos (has_piece l r (get_or ss k d) known slab (are.each k d within)).strand
@@ -169,7 +164,7 @@ module _ {vs ws : List (List Vector)} {room : Frame} {ps qs : List Piece} (g : A
         zipped = levels (mediant l r) hm im
 
         long : length ss ≡ length ts
-        long = zip_long (Level (mediant l r)) ss ts zipped
+        long = length_all_zip (Level (mediant l r)) ss ts zipped
 
         each : (k : ℕ) → k < length ss → AlikeSegment (get_or ss k nothing) (get_or ts k nothing)
         each k hk =

@@ -25,9 +25,6 @@ module _ {sums : List (List Vector)} {room : Frame} {pieces : List Piece} {l r :
   abbrev edge : ℕ → Segment
   edge n = strand sums room (piece_at pieces n)
 
-  m : Vector
-  m = mediant l r
-
   -- a piece that goes across
   abbrev Goes : ℕ → Type 0
   Goes n = (n < length pieces) × Reaches l r (piece_at pieces n)

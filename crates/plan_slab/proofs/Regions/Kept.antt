@@ -41,9 +41,6 @@ kept_append {us = us} {vs} (drop a xs ys off rest) k = drop a (xs ++ us) (ys ++ 
 pub kept_more : {X : Type 0} {P : X → Type 0} {xs ys : List X} (x : X) → Kept P xs ys → P x → Kept P (xs ++ x ∷ []) (ys ++ x ∷ [])
 kept_more x h p = kept_append h (keep x [] [] p none)
 
-pub kept_less : {X : Type 0} {P : X → Type 0} {xs ys : List X} (x : X) → Kept P xs ys → ¬ (P x) → Kept P (xs ++ x ∷ []) (ys ++ [])
-kept_less x h off = kept_append h (drop x [] [] off none)
-
 -- part by part, each part of a list that a number gives
 pub kept_parts : {X : Type 0} (P : X → Type 0) (f : ℕ → List X) (ks : List ℕ) (parts : List (List X)) → AllZip (λ k ys. Kept P (f k) ys) ks parts → Kept P (flat_map f ks) (flat_map (λ ys. ys) parts)
 kept_parts P f [] [] h = none

@@ -1,41 +1,27 @@
 -- A sum holds only points that its box has, so at a given x only sums whose closed range of x has it can hold one: it is enough to test these.
-use Rattle.std.proofs.Common.{◌≡◌, ◌↔◌, inl, inr, ⊎_elim, ℕ, ◌<◌, pos, ◌≤ℤ◌, List, [], length, All, get_or, subst, arith}
-use Rattle.std.proofs.lemmas.List.{get_or_default, length-map}
+use Rattle.std.proofs.Common.{◌≡◌, ◌↔◌, inl, inr, ⊎_elim, ℕ, ◌<◌, pos, List, [], length, All, get_or, subst, arith}
+use Rattle.std.proofs.lemmas.List.{get_or_default}
 use Rattle.std.proofs.lemmas.List.Elements.{All-map, All-contains}
-use Rattle.plan_exact.specs.Vectors.{dot}
 use Rattle.plan_exact.proofs.Laws.{linear}
+use Rattle.plan_exact.proofs.Signs.{lt_of_not_le}
 use Rattle.plan_spec.specs.Vector.{Vector, IsPoint, LeX, SameX, spot}
 use Rattle.plan_spec.specs.Polygon.{Inside}
 use Rattle.plan_spec.specs.Frame.{OnOrBeyond}
 use Rattle.plan_spec.specs.Boundary.{IsClearOf}
-use Rattle.plan_plane.proofs.Boundary.Blocks.{below, beyond_right, above, beyond_left, below_is, right_is, above_is, left_is}
 use Rattle.plan_plane.proofs.Lists.{all_map}
-use Rattle.plan_plane.proofs.Polygon.Fan.{nonneg_at}
 use Rattle.plan_plane.proofs.Segment.ByX.{leX_trans}
 use Rattle.plan_grid.specs.declared.frame.Frame.{Frame}
 use Rattle.plan_grid.specs.declared.spot.Spot.{Spot}
 use Rattle.plan_grid.specs.Frame.{frame_seen}
-use Rattle.plan_grid.specs.Spot.{spot_seen, spots_seen}
+use Rattle.plan_grid.specs.Spot.{spots_seen}
 use Rattle.plan_convex.specs.Boxes.{Encloses}
 use Rattle.plan_convex.specs.Convex.{IsPolygon}
 use Rattle.plan_convex.specs.Piece.{sums_seen}
+use Rattle.plan_convex.proofs.InBox.{inside_is_in}
 use Rattle.plan_slab.specs.Near.{HasX, HasY, AreNear, IsWithinRoom, IsHeldAt}
-use Rattle.plan_slab.proofs.Regions.StraightWays.{beyond}
 
 in_box : (polygon : List Spot) (box : Frame) (z : Vector) → IsPolygon polygon → All (Encloses box) polygon → Inside (spots_seen polygon) z → HasX box z × HasY box z
-in_box polygon box z is boxed inside = (
-  (
-    let f = λ (s : Spot). right_is box.low.x (spot_seen s) in omega (arith, linear, right_is box.low.x z, at (beyond_right box.low.x) (λ s e. omega (arith, linear, f s, e.left))),
-    let f = λ (s : Spot). left_is box.high.x (spot_seen s) in omega (arith, linear, left_is box.high.x z, at (beyond_left box.high.x) (λ s e. omega (arith, linear, f s, e.right))),
-  ),
-  (
-    let f = λ (s : Spot). above_is box.low.y (spot_seen s) in omega (arith, linear, above_is box.low.y z, at (above box.low.y) (λ s e. omega (arith, linear, f s, e.below))),
-    let f = λ (s : Spot). below_is box.high.y (spot_seen s) in omega (arith, linear, below_is box.high.y z, at (below box.high.y) (λ s e. omega (arith, linear, f s, e.above))),
-  ),
-)
-  where
-    at : (l : Vector) → ((s : Spot) → Encloses box s → pos 0 ≤ℤ dot l (spot_seen s)) → pos 0 ≤ℤ dot l z
-    at l f = nonneg_at (spots_seen polygon) z is.convex (omega (arith, is.at_least_three, length-map polygon spot_seen)) inside l (All-map (λ v. pos 0 ≤ℤ dot l v) spot_seen polygon (λ k d within. f (get_or polygon k d) (boxed k d within)))
+in_box polygon box z is boxed inside = let i = inside_is_in polygon box z is.convex is.at_least_three boxed inside in ((i.left, i.right), (i.below, i.above))
 
 -- the range is that of any point with the x
 pub same_range : (box : Frame) (x z : Vector) → IsPoint x → IsPoint z → SameX x z → HasX box z → HasX box x
@@ -54,10 +40,10 @@ same_range box x z hx hz e h =
 within_room : (room : Frame) (z : Vector) → ¬ (OnOrBeyond (frame_seen room) z) ↔ IsWithinRoom room z
 within_room room z = (
   λ off. record {
-    left = let h = beyond _ _ (λ h. off (inl h)) in omega (arith, linear, h);
-    right = let h = beyond _ _ (λ h. off (inr (inl h))) in omega (arith, linear, h);
-    below = let h = beyond _ _ (λ h. off (inr (inr (inl h)))) in omega (arith, linear, h);
-    above = let h = beyond _ _ (λ h. off (inr (inr (inr h)))) in omega (arith, linear, h);
+    left = let h = lt_of_not_le _ _ (λ h. off (inl h)) in omega (arith, linear, h);
+    right = let h = lt_of_not_le _ _ (λ h. off (inr (inl h))) in omega (arith, linear, h);
+    below = let h = lt_of_not_le _ _ (λ h. off (inr (inr (inl h)))) in omega (arith, linear, h);
+    above = let h = lt_of_not_le _ _ (λ h. off (inr (inr (inr h)))) in omega (arith, linear, h);
   },
   λ w. ⊎_elim (λ h. omega (arith, linear, h, w.left)) (⊎_elim (λ h. omega (arith, linear, h, w.right)) (⊎_elim (λ h. omega (arith, linear, h, w.below)) (λ h. omega (arith, linear, h, w.above)))),
 )

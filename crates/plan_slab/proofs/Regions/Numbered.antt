@@ -3,6 +3,7 @@ use Rattle.std.proofs.Common.{◌≡◌, ◌↔◌, ◌⊎◌, inl, inr, ℕ, �
 use Rattle.std.proofs.lemmas.Bool.{cases_order}
 use Rattle.std.proofs.lemmas.List.{get_or_default}
 use Rattle.plan_exact.proofs.Laws.{linear}
+use Rattle.plan_exact.proofs.Signs.{lt_of_not_le}
 use Rattle.plan_spec.specs.Vector.{Vector, IsPoint, LtX, LtY}
 use Rattle.plan_spec.specs.Frame.{Frame}
 use Rattle.plan_spec.specs.Boundary.{IsClearOf}
@@ -13,7 +14,6 @@ use Rattle.plan_plane.proofs.Lists.{any_weaker}
 use Rattle.plan_plane.proofs.Pairs.{pairs_at}
 use Rattle.plan_plane.proofs.Rising.ByCoordinate.{order_x, order_y}
 use Rattle.plan_slab.specs.LotOrder.{Earlier}
-use Rattle.plan_slab.proofs.Regions.StraightWays.{beyond}
 use Rattle.plan_slab.proofs.ByNumber.{at_number}
 use Rattle.plan_slab.proofs.Regions.ExactlyOne.{KnownSlabs, decides, spot_inside, once, listed}
 use Rattle.plan_slab.proofs.Regions.Kept.{kept_all, kept_has, kept_any, kept_pairs}
@@ -86,6 +86,6 @@ module _ {sums : List (List Vector)} {room : Frame} {pieces : List Piece} {σ : 
       let one = map.known.floor.spots in
       let low : IsPoint room.low = omega (arith, linear, one.low) in
       let high : IsPoint room.high = omega (arith, linear, one.high) in (
-        order_x.less room.low z room.high low s.0 high (beyond _ _ (λ h. clear.in_room (inl h))) (beyond _ _ (λ h. clear.in_room (inr (inl h)))),
-        order_y.less room.low z room.high low s.0 high (beyond _ _ (λ h. clear.in_room (inr (inr (inl h))))) (beyond _ _ (λ h. clear.in_room (inr (inr (inr h))))),
+        order_x.less room.low z room.high low s.0 high (lt_of_not_le _ _ (λ h. clear.in_room (inl h))) (lt_of_not_le _ _ (λ h. clear.in_room (inr (inl h)))),
+        order_y.less room.low z room.high low s.0 high (lt_of_not_le _ _ (λ h. clear.in_room (inr (inr (inl h))))) (lt_of_not_le _ _ (λ h. clear.in_room (inr (inr (inr h))))),
       )

@@ -3,7 +3,7 @@ use Rattle.std.proofs.Common.{◌≡◌, inl, inr, pos, ◌+ℤ◌, ◌-ℤ◌, 
 use Rattle.plan_exact.specs.Expr.{con, neg, ◌⊕◌, ◌⊖◌, ◌⊗◌}
 use Rattle.plan_exact.specs.Vectors.{sum, scaled, env}
 use Rattle.plan_exact.specs.Formal as F
-use Rattle.plan_exact.specs.Formal.{A, B, C, D}
+use Rattle.plan_exact.specs.Formal.{A, B, C}
 use Rattle.plan_exact.proofs.Certificates.{lt_from, eq_from}
 use Rattle.plan_exact.proofs.Laws.{linear}
 use Rattle.plan_exact.proofs.RingVectors.{ring_vectors}
@@ -15,7 +15,7 @@ use Rattle.plan_spec.specs.Slabs.{InSlab, Below}
 use Rattle.plan_spec.specs.Regions.{InCell, InWall, mediant, foot, halfway, cell_spot}
 use Rattle.plan_slab.specs.Levels.{run}
 use Rattle.plan_slab.proofs.Order.Across.{IsSlab}
-use Rattle.plan_slab.proofs.Order.Feet.{foot_point, foot_in_line}
+use Rattle.plan_slab.proofs.Order.Feet.{foot_point, foot_in_line, mediant_inside}
 use Rattle.plan_slab.proofs.Order.OneOrder.{foot_inside}
 
 -- ---- halfway between two points
@@ -35,12 +35,6 @@ halfway_left : (r u v : Vector) → IsPoint u → IsPoint v → LtX u r → LtX 
 halfway_left r u v hu hv p q = lt_from (env [] (r ∷ u ∷ v ∷ [])) (con (pos 1)) (C.w ⊗ (A.x ⊗ B.w ⊖ B.x ⊗ A.w) ⊕ B.w ⊗ (A.x ⊗ C.w ⊖ C.x ⊗ A.w)) ((B.x ⊗ C.w ⊕ C.x ⊗ B.w) ⊗ A.w) (A.x ⊗ (con (pos 2) ⊗ (B.w ⊗ C.w))) tt (search signs) (search signs)
 
 -- ---- a cell
-mediant_inside : (l r : Vector) → LtX l r → InSlab l r (mediant l r)
-mediant_inside l r h = (
-  lt_from (env [] (l ∷ r ∷ [])) (con (pos 1)) (B.x ⊗ A.w ⊖ A.x ⊗ B.w) (A.x ⊗ (A.w ⊕ B.w)) ((A.x ⊕ B.x) ⊗ A.w) tt (search signs) (search signs),
-  lt_from (env [] (l ∷ r ∷ [])) (con (pos 1)) (B.x ⊗ A.w ⊖ A.x ⊗ B.w) ((A.x ⊕ B.x) ⊗ B.w) (B.x ⊗ (A.w ⊕ B.w)) tt (search signs) (search signs),
-)
-
 module _ (l r : Vector) (slab : IsSlab l r) where
   inside : (s : Segment) → LtX s.a s.b → IsPoint (foot s (mediant l r)) × InSlab l r (foot s (mediant l r))
   inside s rises =

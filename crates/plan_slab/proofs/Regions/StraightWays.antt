@@ -1,7 +1,7 @@
 -- Straight down, straight up, to the left and to the right of a clear point there is a piece, since the room's sides touch.
-use Rattle.std.proofs.Common.{◌≡◌, inl, inr, ℤ, pos, ◌*ℤ◌, ◌≤ℤ◌, ◌<ℤ◌, List, refl, sym, ap, ◌∙◌, arith}
+use Rattle.std.proofs.Common.{◌≡◌, inl, inr, ℤ, pos, ◌*ℤ◌, List, refl, sym, ap, ◌∙◌, arith}
 use Rattle.plan_exact.proofs.Laws.{linear}
-use Rattle.plan_exact.proofs.Signs.{mul_one, mul_le_mul, le_of_lt, le_or_lt}
+use Rattle.plan_exact.proofs.Signs.{mul_one, mul_le_mul, le_of_lt, le_or_lt, lt_of_not_le}
 use Rattle.plan_spec.specs.Vector.{Vector, IsPoint, LeX, LtX, LeY, LtY, SameX, Same}
 use Rattle.plan_spec.specs.Frame.{Frame, OnOrBeyond}
 use Rattle.plan_spec.specs.Boundary.{IsClearOf}
@@ -26,12 +26,6 @@ level {z} {d} {v} e b =
     let dz : LeX d z = omega (arith, linear) in
     omega (arith, linear, LeX_after b z zz zd, LeX_before b z zz dz)
 
-pub beyond : (a b : ℤ) → ¬ (a ≤ℤ b) → b <ℤ a
-beyond a b off = elim (le_or_lt a b) [
-  | inl h ↦ absurd (off h)
-  | inr h ↦ h
-]
-
 times_one : (a w : ℤ) → w ≡ pos 1 → a *ℤ w ≡ a
 times_one a w e = ap (λ w. a *ℤ w) e ∙ mul_one a
 
@@ -52,7 +46,7 @@ module _ {sums : List (List Vector)} {room : Frame} {pieces : List Piece} (h : H
       e = level refl b.is.0
 
       low : LeY d z
-      low = mul_le_mul z.w (le_of_lt hz) (omega (arith, linear, times_one z.y room.low.w h.floor.spots.low, beyond (z.y *ℤ room.low.w) (room.low.y *ℤ z.w) (λ k. clear.in_room (inr (inr (inl k))))))
+      low = mul_le_mul z.w (le_of_lt hz) (omega (arith, linear, times_one z.y room.low.w h.floor.spots.low, lt_of_not_le (z.y *ℤ room.low.w) (room.low.y *ℤ z.w) (λ k. clear.in_room (inr (inr (inl k))))))
 
       under : LeY b.point z
       under = LeX_before (flipped b.is.0) (flip z) (omega (arith, linear)) low
@@ -70,7 +64,7 @@ module _ {sums : List (List Vector)} {room : Frame} {pieces : List Piece} (h : H
       e = level refl b.is.0
 
       high : LeY z d
-      high = mul_le_mul z.w (le_of_lt hz) (omega (arith, linear, times_one z.y room.high.w h.floor.spots.high, beyond (room.high.y *ℤ z.w) (z.y *ℤ room.high.w) (λ k. clear.in_room (inr (inr (inr k))))))
+      high = mul_le_mul z.w (le_of_lt hz) (omega (arith, linear, times_one z.y room.high.w h.floor.spots.high, lt_of_not_le (room.high.y *ℤ z.w) (z.y *ℤ room.high.w) (λ k. clear.in_room (inr (inr (inr k))))))
 
       over : LeY z b.point
       over = LeX_after (flipped b.is.0) (flip z) (omega (arith, linear)) high
@@ -85,7 +79,7 @@ module _ {sums : List (List Vector)} {room : Frame} {pieces : List Piece} (h : H
       b = way d hz (inl (omega (arith, linear, times_one (room.low.x *ℤ z.w) room.low.w h.floor.spots.low)))
 
       low : LeX d z
-      low = mul_le_mul z.w (le_of_lt hz) (omega (arith, linear, times_one z.x room.low.w h.floor.spots.low, beyond (z.x *ℤ room.low.w) (room.low.x *ℤ z.w) (λ k. clear.in_room (inl k))))
+      low = mul_le_mul z.w (le_of_lt hz) (omega (arith, linear, times_one z.x room.low.w h.floor.spots.low, lt_of_not_le (z.x *ℤ room.low.w) (room.low.x *ℤ z.w) (λ k. clear.in_room (inl k))))
 
       left : LeX b.point z
       left = LeX_before b.is.0 z (omega (arith, linear)) low
@@ -100,7 +94,7 @@ module _ {sums : List (List Vector)} {room : Frame} {pieces : List Piece} (h : H
       b = way d hz (inr (inl (omega (arith, linear, times_one (room.high.x *ℤ z.w) room.high.w h.floor.spots.high))))
 
       high : LeX z d
-      high = mul_le_mul z.w (le_of_lt hz) (omega (arith, linear, times_one z.x room.high.w h.floor.spots.high, beyond (room.high.x *ℤ z.w) (z.x *ℤ room.high.w) (λ k. clear.in_room (inr (inl k)))))
+      high = mul_le_mul z.w (le_of_lt hz) (omega (arith, linear, times_one z.x room.high.w h.floor.spots.high, lt_of_not_le (room.high.x *ℤ z.w) (z.x *ℤ room.high.w) (λ k. clear.in_room (inr (inl k)))))
 
       right : LeX z b.point
       right = LeX_after b.is.0 z (omega (arith, linear)) high

@@ -3,7 +3,6 @@ use Rattle.std.proofs.Common.{◌≡◌, ◌⊎◌, inl, inr, ℕ, zero, suc, �
 use Rattle.std.specs.List.{flat_map}
 use Rattle.std.proofs.lemmas.Bool.{cases_order}
 use Rattle.std.proofs.lemmas.List.Elements.{All-nil, All-cons, All-map, All-weaker}
-use Rattle.plan_exact.proofs.Laws.{linear}
 use Rattle.plan_spec.specs.Vector.{Vector, IsPoint}
 use Rattle.plan_spec.specs.Segment.{Segment, HasPoints}
 use Rattle.plan_spec.specs.Frame.{Frame}
@@ -15,7 +14,7 @@ use Rattle.plan_plane.proofs.Boundary.Decided.{clear_decided}
 use Rattle.plan_plane.proofs.Lists.{any_here, any_there, any_to_map, any_with, all_pairs_map}
 use Rattle.plan_plane.proofs.Rising.ByCoordinate.{order_x}
 use Rattle.plan_plane.proofs.Rising.Lists.{IsOrder, IsRisingOf, rising_of}
-use Rattle.plan_plane.proofs.Segment.Decided.{Decided, decided_by, both_decided, le_decided}
+use Rattle.plan_plane.proofs.Segment.Decided.{Decided, both_decided, le_decided, eq_decided}
 use Rattle.plan_slab.specs.Levels.{run, heights, Lower, Level, strand, AreLevels}
 use Rattle.plan_slab.proofs.ByNumber.{at_number}
 use Rattle.plan_slab.proofs.Order.Across.{IsSlab}
@@ -76,9 +75,6 @@ rows {X} R (suc n) h =
     by x xs each (suc k) d below = each k d (omega arith)
 
 -- ---- the spans of a slab
-equal_decided : (x y : ℤ) → Decided (x ≡ y)
-equal_decided x y = decided_by (λ h. omega (arith, linear, h.0, h.1)) (λ e. (omega (arith, linear), omega (arith, linear))) (both_decided (le_decided x y) (le_decided y x))
-
 module _ {sums : List (List Vector)} {room : Frame} {pieces : List Piece} (known : HasPieces sums room pieces) (l r : Vector) (slab : IsSlab l r) where
   abbrev edge : ℕ → Segment
   edge n = strand sums room (piece_at pieces n)
@@ -144,7 +140,7 @@ module _ {sums : List (List Vector)} {room : Frame} {pieces : List Piece} (known
   Like z j = Reaches l r (piece_at pieces j) × Level (mediant l r) (strand sums room (piece_at pieces z)) (strand sums room (piece_at pieces j))
 
   like_decided : (z j : ℕ) → Decided (Like z j)
-  like_decided z j = both_decided (reach_decided j) (equal_decided ((foot (edge z) (mediant l r)).y *ℤ run (edge j)) ((foot (edge j) (mediant l r)).y *ℤ run (edge z)))
+  like_decided z j = both_decided (reach_decided j) (eq_decided ((foot (edge z) (mediant l r)).y *ℤ run (edge j)) ((foot (edge j) (mediant l r)).y *ℤ run (edge z)))
 
   abbrev lowest : ℕ → ℕ
   lowest z = pick z (first (Like z) (like_decided z) (suc z))

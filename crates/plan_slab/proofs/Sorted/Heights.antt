@@ -1,9 +1,8 @@
 -- The marks of one piece on a line are its heights there: the foot of the line where the piece is from left to right and the line in its range, both ends where it is upright and on the line.
-use Rattle.std.proofs.Common.{◌≡◌, ◌↔◌, inl, inr, ⊎_elim, ℤ, pos, ◌-ℤ◌, ◌≤ℤ◌, ◌*ℤ◌, ◌<ℤ◌, Bool, true, false, ◌&&◌, cond, int_lt, int_le, List, [], ◌∷◌, All, Any, refl, sym, arith}
+use Rattle.std.proofs.Common.{◌≡◌, ◌↔◌, inl, inr, ⊎_elim, ℤ, pos, ◌-ℤ◌, ◌*ℤ◌, ◌<ℤ◌, Bool, true, false, ◌&&◌, cond, int_lt, int_le, List, [], ◌∷◌, All, Any, refl, sym, arith}
 use Rattle.std.specs.Ordering.{int_eq}
 use Rattle.std.proofs.lemmas.Bool.{and_parts, and_from}
 use Rattle.std.proofs.lemmas.Bool.Decides.{Decides-int_eq}
-use Rattle.std.proofs.lemmas.Int.{ints}
 use Rattle.std.proofs.lemmas.List.Elements.{All-nil, All-cons}
 use Rattle.plan_exact.specs.Expr.{◌⊕◌, ◌⊗◌, neg}
 use Rattle.plan_exact.specs.Formal as F
@@ -12,7 +11,7 @@ use Rattle.plan_exact.specs.Vectors.{env}
 use Rattle.plan_exact.proofs.Certificates.{eq_from}
 use Rattle.plan_exact.proofs.Laws.{linear}
 use Rattle.plan_exact.proofs.Signs.{zeros, le_or_lt}
-use Rattle.plan_exact.proofs.Tests.{le_true, lt_from_true, le_from_false}
+use Rattle.plan_exact.proofs.Tests.{le_true, lt_from_true, le_from_false, le_from_true}
 use Rattle.plan_spec.specs.Vector.{Vector, IsPoint, Before, LtX, LeX, SameX, SameY, Same, turn}
 use Rattle.plan_spec.specs.Segment.{HasPoints, On}
 use Rattle.plan_spec.specs.Pieces.{Piece}
@@ -43,9 +42,6 @@ one_point a b u z lt hu hz e =
     let r : pos 0 <ℤ (b.x *ℤ a.w -ℤ a.x *ℤ b.w) = omega (arith, linear) in
     let d : z.x *ℤ u.w -ℤ u.x *ℤ z.w ≡ pos 0 = omega (arith, linear, e) in
     eq_from (env [] (a ∷ b ∷ u ∷ z ∷ [])) (formal_right A B) (neg D.w ⊗ F.det A B C ⊕ C.w ⊗ F.det A B D ⊕ formal_above A B ⊗ formal_right C D) (D.y ⊗ C.w) (C.y ⊗ D.w) tt r (search zeros)
-
-le_from_true : (x y : ℤ) → int_le x y ≡ true → x ≤ℤ y
-le_from_true x y e = omega (arith, ints)
 
 module _ (l : Vector) (p : Piece) (hl : IsPoint l) (hp : HasPoints p.part) (onward : ¬ (Before p.part.b p.part.a)) where
   no_marks : ((z : Vector) → IsPoint z → SameX l z → ¬ (IsMark z p)) → PieceMarks l p []

@@ -27,7 +27,7 @@ use Rattle.plan_slab.proofs.Sorted.Marks.{on_line, mark_points, marks_to, of_pie
 
 -- ---- the spans of one slab
 -- below throughout, so lower at each point
-below_lower : {l r : Vector} (s t : Segment) (m : Vector) → IsSlab l r → Runs t → IsPoint m → InSlab l r m → Below l r s t → Lower m s t
+pub below_lower : {l r : Vector} (s t : Segment) (m : Vector) → IsSlab l r → Runs t → IsPoint m → InSlab l r m → Below l r s t → Lower m s t
 below_lower {l} {r} s t m slab ht hm im below =
     let on : turn t.a t.b (foot t m) ≡ _ = foot_in_line t m in
     let g = below (foot t m) (foot_point t m ht hm) (foot_inside l r t m slab ht hm im) (omega (arith, linear, on)) in

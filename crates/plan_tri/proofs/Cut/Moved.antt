@@ -1,5 +1,5 @@
 -- A point of a triangle, moved a little, so that it is off a line through a corner: it stays in the triangle, and its parity in a chain that it is not on stays.
-use Rattle.std.proofs.Common.{◌≡◌, ℤ, pos, ◌<ℤ◌, [], ◌∷◌, arith, List, All, get_or, sym, refl}
+use Rattle.std.proofs.Common.{◌≡◌, pos, ◌<ℤ◌, [], ◌∷◌, arith, List, All, get_or, sym, refl}
 use Rattle.plan_exact.specs.Expr.{◌⊕◌, ◌⊗◌, neg}
 use Rattle.plan_exact.specs.Formal.{A, B, C, D}
 use Rattle.plan_exact.specs.Formal as F
@@ -7,7 +7,7 @@ use Rattle.plan_exact.specs.Sign.{Sign, is_negative, is_zero, is_positive}
 use Rattle.plan_exact.specs.Vectors.{env, opposite, dot, cross}
 use Rattle.plan_exact.proofs.Certificates.{eq_from}
 use Rattle.plan_exact.proofs.Laws.{linear}
-use Rattle.plan_exact.proofs.Signs.{zeros, sign_of, le_of_lt}
+use Rattle.plan_exact.proofs.Signs.{zeros, sign_of, le_of_lt, not_zero_of_pos, not_zero_of_neg}
 use Rattle.plan_exact.proofs.Vectors.{dot_opposite}
 use Rattle.plan_spec.specs.Chain.{IsClosed}
 use Rattle.plan_spec.specs.Parity.{parity}
@@ -30,12 +30,6 @@ both_on_line c q r e h hq hr =
     (omega (arith, linear), omega (arith, linear))
 
 -- ---- a covector that is not 0 at a point is not 0 near it
-not_zero_pos : {n : ℤ} → pos 0 <ℤ n → ¬ (n ≡ pos 0)
-not_zero_pos h e = omega (arith, linear)
-
-not_zero_neg : {n : ℤ} → n <ℤ pos 0 → ¬ (n ≡ pos 0)
-not_zero_neg h e = omega (arith, linear)
-
 from_not_zero : (k z p : Vector) → ¬ (dot k z ≡ pos 0) → From (λ n. ¬ (dot k (step n z p) ≡ pos 0))
 from_not_zero k z p apart = by (sign_of (dot k z))
   where
@@ -43,10 +37,10 @@ from_not_zero k z p apart = by (sign_of (dot k z))
     by (is_zero e) = absurd (apart e)
     by (is_positive h) =
         let f = from_near k z p h in
-        record { least = f.least; positive = f.positive; on = λ n large. not_zero_pos (f.on n large) }
+        record { least = f.least; positive = f.positive; on = λ n large. not_zero_of_pos (f.on n large) }
     by (is_negative h) =
         let f = from_near (opposite k) z p (omega (arith, linear, dot_opposite k z)) in
-        record { least = f.least; positive = f.positive; on = λ n large. not_zero_neg (let i = f.on n large in omega (arith, linear, dot_opposite k (step n z p))) }
+        record { least = f.least; positive = f.positive; on = λ n large. not_zero_of_neg (let i = f.on n large in omega (arith, linear, dot_opposite k (step n z p))) }
 
 -- ---- the moved point
 pub record Moved (two : List Segment) (c q r z e k : Vector) : Type 0 where
@@ -85,10 +79,10 @@ moved two points closed c q r z e k hz hq hr left iz off apart not_zero = by (si
     here h = record { to = z; point = hz; inside = iz; off = off; same = refl; apart = h; kept = not_zero }
 
     by : Sign (turn e c z) → Sign (turn e c q) → Sign (turn e c r) → Moved two c q r z e k
-    by (is_positive h) s t = here (not_zero_pos h)
-    by (is_negative h) s t = here (not_zero_neg h)
-    by (is_zero o) (is_positive h) t = towards two points closed c q r z e k q hz hq iz (second_inside c q r left) off o (not_zero_pos h) not_zero
-    by (is_zero o) (is_negative h) t = towards two points closed c q r z e k q hz hq iz (second_inside c q r left) off o (not_zero_neg h) not_zero
-    by (is_zero o) s (is_positive h) = towards two points closed c q r z e k r hz hr iz (third_inside c q r left) off o (not_zero_pos h) not_zero
-    by (is_zero o) s (is_negative h) = towards two points closed c q r z e k r hz hr iz (third_inside c q r left) off o (not_zero_neg h) not_zero
+    by (is_positive h) s t = here (not_zero_of_pos h)
+    by (is_negative h) s t = here (not_zero_of_neg h)
+    by (is_zero o) (is_positive h) t = towards two points closed c q r z e k q hz hq iz (second_inside c q r left) off o (not_zero_of_pos h) not_zero
+    by (is_zero o) (is_negative h) t = towards two points closed c q r z e k q hz hq iz (second_inside c q r left) off o (not_zero_of_neg h) not_zero
+    by (is_zero o) s (is_positive h) = towards two points closed c q r z e k r hz hr iz (third_inside c q r left) off o (not_zero_of_pos h) not_zero
+    by (is_zero o) s (is_negative h) = towards two points closed c q r z e k r hz hr iz (third_inside c q r left) off o (not_zero_of_neg h) not_zero
     by (is_zero o) (is_zero e1) (is_zero e2) = absurd (apart (both_on_line c q r e left e1 e2))

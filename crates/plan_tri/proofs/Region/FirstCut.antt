@@ -5,20 +5,20 @@ use Rattle.std.proofs.Math.Seq.{drop-cons}
 use Rattle.std.proofs.lemmas.List.{get_or_default, take_more, take_all, take-append-le, drop-append-le, map-append, take-map, drop-map, length-map}
 use Rattle.plan_spec.specs.Vector.{Vector}
 use Rattle.plan_spec.specs.Triangulation as spec
-use Rattle.plan_spec.specs.Triangulation.{Parted, part_at_best, in_triangle, farther, ear_or_cut, from_corner, from_part, from_least, triangles_within}
+use Rattle.plan_spec.specs.Triangulation.{part_at_best, in_triangle, farther, ear_or_cut, from_corner}
 use Rattle.plan_grid.specs.declared.spot.Spot.{Spot}
 use Rattle.plan_grid.specs.Spot.{spot_seen, spots_seen}
+use Rattle.plan_grid.proofs.Spots.{origin, corner}
 use Rattle.plan_plane.proofs.Polygon.Corner.{polygon}
 use Rattle.plan_poly.specs.Part.{part_at}
 use Rattle.plan_poly.proofs.FromLeast.Search.{beyond}
-use Rattle.plan_poly.proofs.Spots.{nowhere, vertex}
 use Rattle.plan_tri.proofs.Region.Steps.{corner_is}
 
 -- ---- the spots of the corner, and those between
-last_apart : (xs : List Spot) (m : ℕ) → suc m ≡ length xs → xs ≡ take m xs ++ vertex xs m ∷ []
-last_apart xs m e = sym (take_all (m + 1) xs (omega (arith, e))) ∙ take_more xs m nowhere (omega (arith, e))
+last_apart : (xs : List Spot) (m : ℕ) → suc m ≡ length xs → xs ≡ take m xs ++ corner xs m ∷ []
+last_apart xs m e = sym (take_all (m + 1) xs (omega (arith, e))) ∙ take_more xs m origin (omega (arith, e))
 
-pub listed : (s : List Spot) → 3 ≤ length s → spots_seen s ≡ polygon (spot_seen (vertex s 0)) (spot_seen (vertex s 1)) (spots_seen (slice_range s 2 (length s - 1))) (spot_seen (vertex s (length s - 1)))
+pub listed : (s : List Spot) → 3 ≤ length s → spots_seen s ≡ polygon (spot_seen (corner s 0)) (spot_seen (corner s 1)) (spots_seen (slice_range s 2 (length s - 1))) (spot_seen (corner s (length s - 1)))
 listed [] three = absurd (omega (arith, three))
 listed (a ∷ []) three = absurd (omega (arith, three))
 listed (a ∷ b ∷ []) three = absurd (omega (arith, three))
@@ -26,19 +26,19 @@ listed (a ∷ b ∷ c ∷ rest) three =
     let m = length rest in
     let n : suc (suc m) ≡ length (a ∷ b ∷ c ∷ rest) - 1 = omega arith in
     let between : m ≡ length (a ∷ b ∷ c ∷ rest) - 1 - 2 = omega arith in
-    ap (λ zs. spot_seen a ∷ (spot_seen b ∷ zs)) (ap spots_seen (last_apart (c ∷ rest) m refl) ∙ map-append spot_seen (take m (c ∷ rest)) (vertex (c ∷ rest) m ∷ []))
-    ∙ (λ i. polygon (spot_seen a) (spot_seen b) (spots_seen (take (between i) (c ∷ rest))) (spot_seen (vertex (a ∷ b ∷ c ∷ rest) (n i))))
+    ap (λ zs. spot_seen a ∷ (spot_seen b ∷ zs)) (ap spots_seen (last_apart (c ∷ rest) m refl) ∙ map-append spot_seen (take m (c ∷ rest)) (corner (c ∷ rest) m ∷ []))
+    ∙ (λ i. polygon (spot_seen a) (spot_seen b) (spots_seen (take (between i) (c ∷ rest))) (spot_seen (corner (a ∷ b ∷ c ∷ rest) (n i))))
 
 -- the same with the spots as the code takes them
 pub corner_of : (s : List Spot) (n : ℕ) (v w u : Spot) (mid : List Spot) → 3 ≤ length s → length s ≡ n → v ≡ get_or s 0 v → w ≡ get_or s 1 w → u ≡ get_or s (n - 1) u → mid ≡ slice_range s 2 (n - 1)
     → spots_seen s ≡ polygon (spot_seen v) (spot_seen w) (spots_seen mid) (spot_seen u)
 corner_of s n v w u mid three size ev ew eu em =
     listed s three
-    ∙ (λ i. polygon (spot_seen (at 0 v ev (omega (arith, three)) i)) (spot_seen (at 1 w ew (omega (arith, three)) i)) (spots_seen (slice_range s 2 (size i - 1))) (spot_seen (vertex s (size i - 1))))
+    ∙ (λ i. polygon (spot_seen (at 0 v ev (omega (arith, three)) i)) (spot_seen (at 1 w ew (omega (arith, three)) i)) (spots_seen (slice_range s 2 (size i - 1))) (spot_seen (corner s (size i - 1))))
     ∙ (λ i. polygon (spot_seen v) (spot_seen w) (spots_seen (sym em i)) (spot_seen (at (n - 1) u eu (omega (arith, three, size)) i)))
   where
-    at : (k : ℕ) (x : Spot) → x ≡ get_or s k x → k < length s → vertex s k ≡ x
-    at k x e within = get_or_default s k nowhere x within ∙ sym e
+    at : (k : ℕ) (x : Spot) → x ≡ get_or s k x → k < length s → corner s k ≡ x
+    at k x e within = get_or_default s k origin x within ∙ sym e
 
 -- ---- the two parts of a cut at place k of those between
 take_part : (v w : Vector) (mid : List Vector) (u : Vector) (k : ℕ) → k < length mid → take (k + 3) (polygon v w mid u) ≡ v ∷ (w ∷ (take k mid ++ get_or mid k beyond ∷ []))

@@ -10,7 +10,7 @@ use Rattle.plan_plane.proofs.Polygon.Corner.{polygon}
 use Rattle.plan_poly.proofs.Loop.Corner.{AtCorner}
 use Rattle.plan_tri.proofs.Region.Steps.{region, own_least, same_triangles}
 
-turns_left : (v w : Vector) (mid : List Vector) (u : Vector) → TurnsLeft (polygon v w mid u) → pos 0 <ℤ turn u v w
+pub turns_left : (v w : Vector) (mid : List Vector) (u : Vector) → TurnsLeft (polygon v w mid u) → pos 0 <ℤ turn u v w
 turns_left v w [] u h = h
 turns_left v w (m ∷ ms) u h = subst (λ u. pos 0 <ℤ turn u v w) (split_last m ms u) h
 

@@ -95,7 +95,7 @@ value_kept want place v d small h =
       task = task_kept want place w d.task small_w (task_read ∙ ap (λ e. Ok e.task) is);
     }))))))
 
-json_ok : (bytes : List ℕ) (v : Data) → json_of bytes ≡ Ok v → read bytes ≡ Some v
+pub json_ok : (bytes : List ℕ) (v : Data) → json_of bytes ≡ Ok v → read bytes ≡ Some v
 json_ok bytes v h = by_test (is_utf8 bytes) h
   where
     by_test : (t : Bool) → (let o : Read Data = if t then some_or json (read bytes) else Err json in o) ≡ Ok v → read bytes ≡ Some v

@@ -5,10 +5,10 @@ use Rattle.std.specs.Result.{IfOk}
 use Rattle.rayon.specs.Numbers.{nat_range}
 use Rattle.rayon.proofs.ToStd.{nat_range-All}
 use Rattle.plan_spec.specs.Boundary.{boundary}
+use Rattle.plan_plane.proofs.Collected.{collected}
 use Rattle.plan_grid.specs.Frame.{frame_seen}
 use Rattle.plan_convex.specs.Piece.{sums_seen}
 use Rattle.plan_bound.specs.Pieces.{ArePiecesOf}
-use Rattle.plan_bound.proofs.Numbered.{collected}
 use Rattle.plan_bound.proofs.all_edges.by_edge.Goals as goal
 
 pub collect-requires-clause-ready : goal.collect-requires-clause-ready

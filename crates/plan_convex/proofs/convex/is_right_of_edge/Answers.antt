@@ -1,7 +1,7 @@
 -- The loop meets each edge once, and leaves at one that is right.
 use Rattle.std.proofs.Common.{sym, subst, below_more, refl, ◌∙◌, arith}
 use Rattle.plan_spec.specs.Polygon.{AreRight}
-use Rattle.plan_convex.proofs.Edges.{edge_at, get_or-edges, length-edges}
+use Rattle.plan_grid.proofs.Edges.{edge_at, get_or-edges, length-edges}
 use Rattle.plan_convex.proofs.convex.is_right_of_edge.Goals as goal
 
 pub loop-i-preserved : goal.loop-i-preserved

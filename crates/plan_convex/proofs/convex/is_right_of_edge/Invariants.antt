@@ -1,7 +1,7 @@
 -- The edges so far are not right.
 use Rattle.std.proofs.Common.{ℕ, ◌<◌}
 use Rattle.plan_spec.specs.Polygon.{AreRight}
-use Rattle.plan_convex.proofs.Edges.{edge_at}
+use Rattle.plan_grid.proofs.Edges.{edge_at}
 use Rattle.plan_convex.proofs.convex.is_right_of_edge.Given as goal
 
 abbrev pub invariant-loop-i : goal.invariant-loop-i

@@ -1,7 +1,7 @@
 -- The edge is one of the next sum, or its number falls by the edges of that sum.
 use Rattle.std.proofs.Common.{◌≡◌, ◌+◌, ◌-◌, ◌<◌, ◌∙◌, sym, ap, subst, length, get_or, arith}
 use Rattle.plan_grid.specs.Frame.{frame_seen}
-use Rattle.plan_convex.proofs.Edges.{edge_at}
+use Rattle.plan_grid.proofs.Edges.{edge_at}
 use Rattle.plan_convex.proofs.EdgeNumbers.{left_from, length_more, edge_here, edge_beyond, ends_differ}
 use Rattle.plan_convex.proofs.numbering.edge_of.Goals as goal
 

@@ -1,7 +1,8 @@
 -- The cell above the span below the spot holds it.
 use Rattle.std.proofs.Common.{arith}
 use Rattle.plan_grid.specs.Spot.{spot_seen}
-use Rattle.plan_map.proofs.Location.ByNumber.{line_count, spot_point}
+use Rattle.plan_slab.proofs.Counts.{line_count}
+use Rattle.plan_map.proofs.Location.ByNumber.{spot_point}
 use Rattle.plan_map.proofs.Location.Lots.{no_cell, cell_holds}
 use Rattle.plan_map.proofs.locate.cell_at.Goals as goal
 

@@ -6,8 +6,9 @@ use Rattle.plan_spec.specs.Slabs.{line_at}
 use Rattle.plan_grid.specs.Spot.{spot_seen}
 use Rattle.plan_slab.specs.Subdivision.{slabs_of}
 use Rattle.plan_slab.proofs.Regions.Rows.{right_of}
+use Rattle.plan_slab.proofs.Counts.{line_count}
 use Rattle.plan_map.specs.Located.{IsBetween}
-use Rattle.plan_map.proofs.Location.ByNumber.{line_count, line_found, spot_point}
+use Rattle.plan_map.proofs.Location.ByNumber.{line_found, spot_point}
 use Rattle.plan_map.proofs.Location.Lots.{slab_found, outside}
 use Rattle.plan_map.proofs.Location.Sinking.{IsFound}
 use Rattle.plan_map.proofs.locate.lot_at.Goals as goal

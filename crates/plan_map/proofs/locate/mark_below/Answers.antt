@@ -3,7 +3,8 @@ use Rattle.std.proofs.Common.{length, refl, sym, ap, ◌∙◌}
 use Rattle.plan_spec.specs.Slabs.{marks_of}
 use Rattle.plan_grid.specs.Spot.{spot_seen}
 use Rattle.plan_slab.specs.Subdivision.{slabs_of}
-use Rattle.plan_map.proofs.Location.ByNumber.{mark_count, mark_found}
+use Rattle.plan_slab.proofs.Counts.{mark_count}
+use Rattle.plan_map.proofs.Location.ByNumber.{mark_found}
 use Rattle.plan_map.proofs.Location.Sinking.{there}
 use Rattle.plan_map.proofs.locate.mark_below.Goals as goal
 

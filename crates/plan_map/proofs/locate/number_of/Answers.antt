@@ -3,8 +3,8 @@ use Rattle.std.proofs.Common.{subst, arith}
 use Rattle.plan_spec.specs.Regions.{wall}
 use Rattle.plan_slab.specs.Seen.{lot_seen}
 use Rattle.plan_slab.specs.Subdivision.{slabs_of}
+use Rattle.plan_slab.proofs.Counts.{line_count, mark_count}
 use Rattle.plan_map.specs.Located.{IsThere}
-use Rattle.plan_map.proofs.Location.ByNumber.{line_count, mark_count}
 use Rattle.plan_map.proofs.locate.number_of.Goals as goal
 
 pub wall-requires-clause-at : goal.wall-requires-clause-at

@@ -1,14 +1,14 @@
 -- The robot has as many vertices as were given; the scenes are made of it alone.
 use Rattle.std.proofs.Common.{arith}
+use Rattle.plan_scene.proofs.Read.{same_count}
 use Rattle.plan_reply.specs.First.{IsAlone, given_of}
-use Rattle.plan_reply.proofs.KeptLength.{kept_length}
 use Rattle.plan_reply.proofs.Made.{of_alone}
 use Rattle.plan_reply.proofs.first.first_scene.Goals as goal
 
 pub unreachable-requires-in-Err-RobotMany : goal.unreachable-requires-in-Err-RobotMany
 unreachable-requires-in-Err-RobotMany c =
     let many = rw c.in-Err-RobotMany.field-0-is at c.in-Err-RobotMany.ensures in
-    omega (arith, many.0, many.1, kept_length c.args.robot.items c.in-Ok.robot c.in-Ok.ensures, c.requires.robot.most)
+    omega (arith, many.0, many.1, same_count c.args.robot.items c.in-Ok.robot c.in-Ok.ensures, c.requires.robot.most)
 
 pub returns : goal.returns
 returns c =

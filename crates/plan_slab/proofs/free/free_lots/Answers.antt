@@ -4,12 +4,12 @@ use Rattle.std.specs.List.{AllZip, range_with_len}
 use Rattle.std.specs.Result.{IfOk}
 use Rattle.rayon.specs.Numbers.{nat_range}
 use Rattle.rayon.proofs.ToStd.{nat_range-All}
+use Rattle.plan_plane.proofs.Collected.{collected}
 use Rattle.plan_grid.specs.Frame.{frame_seen}
 use Rattle.plan_convex.specs.Piece.{sums_seen}
 use Rattle.plan_slab.specs.FreeLots.{AreFreeOf}
 use Rattle.plan_slab.specs.Seen.{lot_seen}
 use Rattle.plan_slab.specs.SlabsSeen.{slabs_seen}
-use Rattle.plan_slab.proofs.Collected.{collected}
 use Rattle.plan_slab.proofs.free.free_lots.Goals as goal
 
 pub collect-requires-clause-ready : goal.collect-requires-clause-ready

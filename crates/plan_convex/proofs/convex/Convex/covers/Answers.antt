@@ -2,8 +2,8 @@
 use Rattle.std.proofs.Common.{refl, sym, subst, arith, below_more}
 use Rattle.plan_spec.specs.Boundary.{IsLeft, StrictlyInside}
 use Rattle.plan_grid.specs.Spot.{spot_seen, spots_seen}
+use Rattle.plan_grid.proofs.Edges.{edge_at}
 use Rattle.plan_convex.proofs.Covered.{strictly_by_number, left_of_each}
-use Rattle.plan_convex.proofs.Edges.{edge_at}
 use Rattle.plan_convex.proofs.convex.Convex.covers.Goals as goal
 
 pub returns-then-not-is_left : goal.returns-then-not-is_left

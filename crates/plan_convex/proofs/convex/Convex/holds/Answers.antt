@@ -4,7 +4,8 @@ use Rattle.plan_exact.proofs.Laws.{linear}
 use Rattle.plan_exact.proofs.Signs.{le_or_lt}
 use Rattle.plan_spec.specs.Polygon.{Inside, OnOrLeft}
 use Rattle.plan_grid.specs.Spot.{spots_seen}
-use Rattle.plan_convex.proofs.Edges.{edge_at, inside_by_number, left_of_edge}
+use Rattle.plan_grid.proofs.Edges.{edge_at}
+use Rattle.plan_convex.proofs.Edges.{inside_by_number, left_of_edge}
 use Rattle.plan_convex.proofs.convex.Convex.holds.Goals as goal
 
 pub returns-then-is_right : goal.returns-then-is_right

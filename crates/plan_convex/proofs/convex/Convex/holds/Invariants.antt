@@ -1,7 +1,7 @@
 -- z is on or left of the edges so far.
 use Rattle.std.proofs.Common.{ℕ, ◌<◌}
 use Rattle.plan_spec.specs.Polygon.{OnOrLeft}
-use Rattle.plan_convex.proofs.Edges.{edge_at}
+use Rattle.plan_grid.proofs.Edges.{edge_at}
 use Rattle.plan_convex.proofs.convex.Convex.holds.Given as goal
 
 abbrev pub invariant-loop-i : goal.invariant-loop-i

@@ -6,10 +6,10 @@ use Rattle.plan_spec.specs.Parity.{xor}
 use Rattle.plan_spec.specs.Polygon.{edges}
 use Rattle.plan_spec.specs.SimplePolygon.{InPolygon}
 use Rattle.plan_grid.specs.Spot.{spots_seen}
+use Rattle.plan_grid.proofs.Edges.{length-edges}
 use Rattle.plan_plane.proofs.Lists.{no_one}
 use Rattle.plan_poly.specs.Edge.{segment_seen}
 use Rattle.plan_poly.proofs.EvenOdd.Walk.{Walked, walked_more, walked_all}
-use Rattle.plan_poly.proofs.Spots.{count_edges}
 use Rattle.plan_poly.proofs.polygon.Polygon.holds.Goals as goal
 
 xor_is : (x y : Bool) → xor x y ≡ not (beq x y)
@@ -24,14 +24,14 @@ loop-i-preserved c =
     let es = edges (spots_seen spots) in
     let within = c.loop-i-test.true in
     let off : ¬ (On (segment_seen c.of-edge.result) c.args.z.now) = λ o. let e = c.if-has_point.ensures.1 o in cc in
-    subst (λ b. Walked es (c.loop-i.i + 1) b c.args.z.now) (xor_is c.loop-i.odd c.stands_over-odd.result) (walked_more (segment_seen c.of-edge.result) c.stands_over-odd.result c.loop-i.invariant (omega (arith, count_edges spots)) c.of-edge.ensures off c.stands_over-odd.ensures)
+    subst (λ b. Walked es (c.loop-i.i + 1) b c.args.z.now) (xor_is c.loop-i.odd c.stands_over-odd.result) (walked_more (segment_seen c.of-edge.result) c.stands_over-odd.result c.loop-i.invariant (omega (arith, length-edges spots)) c.of-edge.ensures off c.stands_over-odd.ensures)
 
 pub returns : goal.returns
 returns c =
     let spots = c.spots-spots.result.now in
     let z = c.args.z.now in
     let past = c.loop-i-test.false in
-    let all = walked_all c.loop-i.invariant (omega (arith, count_edges spots)) in
+    let all = walked_all c.loop-i.invariant (omega (arith, length-edges spots)) in
     let same = c.spots-spots.ensures.value in (
       λ yes. subst (λ l. InPolygon (spots_seen l) z) same (inr (sym all.1 ∙ yes)),
       λ held. ⊎_elim (λ m. absurd (no_one (λ s. On s z) (edges (spots_seen spots)) all.0 m)) (λ odd. all.1 ∙ odd) (subst (λ l. InPolygon (spots_seen l) z) (sym same) held),

@@ -6,7 +6,7 @@ use Rattle.plan_plane.proofs.Rising.ByCoordinate.{order_x, order_y}
 use Rattle.plan_plane.proofs.Rising.Lists.{IsOrder}
 use Rattle.plan_plane.proofs.Segment.Same.{Same-swapped, Same-trans}
 
-different : (a b : Vector) → Before a b → ¬ (Same a b)
+pub different : (a b : Vector) → Before a b → ¬ (Same a b)
 different a b (inl h) e = omega (arith, linear, e.0)
 different a b (inr h) e = omega (arith, linear, h.1, e.1)
 
@@ -46,3 +46,7 @@ before_once p q (inl h) (inl k) = omega (arith, linear)
 before_once p q (inl h) (inr k) = omega (arith, linear, k.0)
 before_once p q (inr h) (inl k) = omega (arith, linear, h.0)
 before_once p q (inr h) (inr k) = omega (arith, linear, h.1, k.1)
+
+-- neither of the two is before the other
+pub same_of : (x y : Vector) → IsPoint x → IsPoint y → ¬ (Before x y) → ¬ (Before y x) → Same x y
+same_of x y hx hy h k = ⊎_elim (λ l. absurd (h l)) (λ t. ⊎_elim (λ e. e) (λ l. absurd (k l)) t) (order_before.total x y hx hy)
