@@ -39,7 +39,7 @@ pub fn uncovered(
 {
     let boxes = boxes_of(alloc, sums)?;
     let count = edge_count(sums);
-    let least = (count / workers as u32) as usize + 1;
+    let least = (count / (workers as u32 + 1)) as usize + 1;
     let lists = by_edge(rt, alloc, sums, &boxes, room, count, least)?;
     let list = joined(alloc, &lists)?;
     Ok(Pieces { list })

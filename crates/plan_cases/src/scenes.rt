@@ -71,5 +71,5 @@ pub fn slabs_of<R: Threads + Sync>(
     let sums = scene.sums();
     let room = scene.room();
     let pieces = uncovered(rt, alloc, sums, room, workers, &OpenGate)?;
-    Ok(Slabs::build(rt, alloc, &pieces, sums, room)?)
+    Ok(Slabs::build_by(rt, alloc, &pieces, sums, room, workers)?)
 }

@@ -137,7 +137,7 @@ fn map_of<G: Gate>(
     let Ok(pieces) = uncovered(rt, alloc, sums, room, workers, gate) else {
         return Err(StandFault::NoMemory);
     };
-    match Slabs::build(rt, alloc, &pieces, sums, room) {
+    match Slabs::build_by(rt, alloc, &pieces, sums, room, workers) {
         Ok(slabs) => {
             prove!(slabs.size() <= 131_072);
             prove!(slabs.lines().len() <= 131_072);

@@ -29,6 +29,9 @@ use plan_grid::{Frame, MOST_COORDINATE, Ratio};
 use std::alloc::{AllocError, Global};
 use std::thread::Threads;
 
+// The most workers that share the tests of what is free.
+const MOST_WORKERS: u8 = 16;
+
 impl Slabs {
     /// The slabs and regions of the pieces that at most 512 sums and the room leave. Too many are more than 131,072 spans
     /// and marks.
@@ -38,6 +41,26 @@ impl Slabs {
         pieces: &Pieces,
         sums: &[Convex],
         room: Frame,
+    ) -> Result<Slabs, SlabFault>
+        requires sums { length sums.now ≤ 512 }
+        requires low { IsWithin MOST_COORDINATE room.low }
+        requires high { IsWithin MOST_COORDINATE room.high }
+        requires bound { IsBoundaryOf (sums_seen sums.now) (frame_seen room) pieces.now }
+        ensures slabs { IfOk result (λ s. AreSlabsOf (sums_seen sums.now) (frame_seen room) pieces.now (slabs_of s)) }
+        ensures regions { IfOk result (λ s. AreRegions (sums_seen sums.now) (frame_seen room) (slabs_of s) (regions_of s)) }
+        ensures many { IfErr result (λ e. e ≡ TooManyRegions → AreTooMany (sums_seen sums.now) (frame_seen room) pieces.now) }
+    {
+        Slabs::build_by(rt, alloc, pieces, sums, room, MOST_WORKERS)
+    }
+
+    /// The same, where at most `workers` threads share the tests of what is free.
+    pub fn build_by(
+        rt: &(impl Threads + Sync),
+        alloc: Global,
+        pieces: &Pieces,
+        sums: &[Convex],
+        room: Frame,
+        workers: u8,
     ) -> Result<Slabs, SlabFault>
         requires sums { length sums.now ≤ 512 }
         requires low { IsWithin MOST_COORDINATE room.low }
@@ -62,6 +85,7 @@ impl Slabs {
             &lines,
             &rows.spans,
             &rows.marks,
+            workers,
         )?;
         let ends = ends_of(alloc, &lines, &rows.spans, &rows.marks)?;
         let beside = rows_of(alloc, &lots, &ends)?;
@@ -87,6 +111,7 @@ fn free_regions(
     lines: &[Ratio],
     spans: &[Vec<Strand>],
     marks: &[Vec<Ratio>],
+    workers: u8,
 ) -> Result<Vec<Lot>, AllocError>
     requires boxes { AreBoxes sums.now boxes.now }
     requires room { AreWithin room }
@@ -94,7 +119,7 @@ fn free_regions(
     ensures { IfOk result (λ v. AreRegions (sums_seen sums.now) (frame_seen room)
         (slabs_seen lines.now (map (λ w. w.items) spans.now) (map (λ w. w.items) marks.now)) (map lot_seen v.items)) }
 {
-    let lists = free_lots(rt, alloc, sums, boxes, room, lines, spans, marks)?;
+    let lists = free_lots(rt, alloc, sums, boxes, room, lines, spans, marks, workers)?;
     let regions = joined(alloc, &lists)?;
     Ok(regions)
 }

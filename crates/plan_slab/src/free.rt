@@ -25,7 +25,11 @@ use rayon::prelude::*;
 use std::alloc::{AllocError, Global};
 use std::thread::Threads;
 
-/// The free cells and walls: of each slab the cells from below, then the walls of the line on its right from below.
+// The fewest slabs that are worth a thread.
+const LEAST_SLABS: usize = 16;
+
+/// The free cells and walls: of each slab the cells from below, then the walls of the line on its right from below. At most
+/// `workers` threads share the slabs.
 pub fn free_lots(
     rt: &(impl Threads + Sync),
     alloc: Global,
@@ -35,6 +39,7 @@ pub fn free_lots(
     lines: &[Ratio],
     spans: &[Vec<Strand>],
     marks: &[Vec<Ratio>],
+    workers: u8,
 ) -> Result<Vec<Vec<Lot>>, AllocError>
     requires boxes { AreBoxes sums.now boxes.now }
     requires room { AreWithin room }
@@ -45,9 +50,10 @@ pub fn free_lots(
         (range_with_len 0 (length spans.now)) v.items) }
 {
     let count = spans.len();
+    let least = (count / (workers as usize + 1) + 1).max(LEAST_SLABS);
     (0..count)
         .into_par_iter()
-        .with_min_len(16)
+        .with_min_len(least)
         .map(
             |k: usize| -> Result<Vec<Lot>, AllocError>
                 requires slab { k < length spans.now }

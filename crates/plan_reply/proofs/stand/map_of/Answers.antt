@@ -9,8 +9,8 @@ use Rattle.plan_slab.specs.Subdivision.{slabs_of, regions_of}
 use Rattle.plan_reply.proofs.Limits.{lowest_lines, too_large}
 use Rattle.plan_reply.proofs.stand.map_of.Goals as goal
 
-pub returns-in-Ok-build-clause-map : goal.returns-in-Ok-build-clause-map
-returns-in-Ok-build-clause-map g c =
+pub returns-in-Ok-build_by-clause-map : goal.returns-in-Ok-build_by-clause-map
+returns-in-Ok-build_by-clause-map g c =
     subst (λ s. IsMapOf (scene_seen c.args.scene.now) (slabs_of s) (regions_of s)) (sym c.of.ensures) (record {
       sums = sums_seen c.sums-sums.result.now;
       are_sums = c.sums-sums.ensures.sums;
@@ -18,9 +18,9 @@ returns-in-Ok-build-clause-map g c =
       is_room = c.room-room.ensures.room;
       pieces = c.in-Ok.pieces;
       is_boundary = c.in-Ok.ensures;
-      lowest = lowest_lines c.in-Ok-build.slabs.lines (subst (All IsLine) c.lines.ensures.value c.lines.ensures.each);
-      slabs = c.in-Ok-build.ensures.slabs.slabs;
-      regions = c.in-Ok-build.ensures.regions;
+      lowest = lowest_lines c.in-Ok-build_by.slabs.lines (subst (All IsLine) c.lines.ensures.value c.lines.ensures.each);
+      slabs = c.in-Ok-build_by.ensures.slabs.slabs;
+      regions = c.in-Ok-build_by.ensures.regions;
     })
 
 pub returns-in-Err-TooManyRegions-clause-many : goal.returns-in-Err-TooManyRegions-clause-many

@@ -9,7 +9,7 @@ use Rattle.plan_slab.specs.Seen.{lot_seen}
 use Rattle.plan_slab.specs.Subdivision.{Subdivision, slabs_of, regions_of}
 use Rattle.plan_slab.proofs.HeightsOn.{heights_on}
 use Rattle.plan_slab.proofs.SlabParts.{Known, known_from, with_rows, floor_of, piece_points, in_order, tabled, subdivision}
-use Rattle.plan_slab.proofs.slabs.Slabs.build.Goals as goal
+use Rattle.plan_slab.proofs.slabs.Slabs.build_by.Goals as goal
 
 pub lines_of-requires : goal.lines_of-requires
 lines_of-requires g c =
