@@ -3,8 +3,8 @@ use std::alloc::{AllocError, Global};
 use std::process::Abort;
 use std::test::Fail;
 
-/// A bar comes and goes, while the first lane asks twice whether it is in the way, and the second once.
-pub const COMES_AND_GOES: &str =
+// A bar comes and goes, while the first lane asks twice whether it is in the way, and the second once.
+const COMES_AND_GOES: &str =
     r#"[{"edits":[{"add":1,"shape":[[9,-5],[11,-5],[11,25],[9,25]]},{"remove":1}],"lanes":[[[2,2,15,2],[2,2,15,2]],[[2,2,15,2]]]}]"#;
 
 const EDITS: &str = "round 1\nedit 1 version 1\nedit 2 version 2\n";
@@ -48,8 +48,8 @@ fn versions_in(text: &str) -> Option<(&str, &str, &str)> {
     Some((version_in(first)?, version_in(second)?, version_in(third)?))
 }
 
-/// Whether these are lawful lines of the bar that comes and goes.
-pub fn is_lawful(text: &str) -> bool {
+// Whether these are lawful lines of the bar that comes and goes.
+fn is_lawful(text: &str) -> bool {
     match versions_in(text) {
         Some((first, second, _)) => may_follow(first, second),
         None => false,
