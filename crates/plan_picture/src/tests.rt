@@ -243,7 +243,7 @@ fn triangles(alloc: Global) -> Result<String, Fail> {
 fn each_of_64_obstacles_has_its_id(rt: HostRuntime) -> Result<(), Fail> {
     let alloc = rt.alloc();
     let obstacles = triangles(alloc)?;
-    let asked = "\"queries\":[[1,1,19,19]]";
+    let asked = "\"queries\":[[1,1,18,18]]";
     let told = drawn(&rt, alloc, "1", CORNER, obstacles.as_str(), asked)?;
     expect(&rt, alloc, &told, "0 ", "<title>query 1: a path of ")?;
     for row in LINES.lines() {
