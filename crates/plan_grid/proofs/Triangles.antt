@@ -1,5 +1,5 @@
 -- Triangles of spots: the corners differ, so one of them is the least, and taken in the other direction they turn the other way.
-use Rattle.std.proofs.Common.{◌≡◌, ◌⊎◌, inl, inr, pos, ◌<ℤ◌, ◌≤ℤ◌, ◌∙◌, refl, sym, subst, List, [], ◌∷◌, length, All, arith}
+use Rattle.std.proofs.Common.{◌≡◌, ◌⊎◌, inl, inr, pos, ◌<ℤ◌, ◌∙◌, refl, sym, subst, List, [], ◌∷◌, length, All, arith}
 use Rattle.std.proofs.lemmas.List.Elements.{All-nil, All-cons}
 use Rattle.plan_exact.proofs.Laws.{linear}
 use Rattle.plan_exact.proofs.Vectors.{det_turned, det_swapped_right, cross_on_left}

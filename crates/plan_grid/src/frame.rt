@@ -1,12 +1,14 @@
-ghost use Rattle.std.specs.Prelude.{◌⊎◌, ◌↔◌, IsTrue};
+ghost use Rattle.std.specs.Prelude.{◌⊎◌, ◌↔◌, ◌*ℤ◌, pos, IsTrue};
 ghost use Rattle.plan_spec.specs.Vector.{LeX, LtX, LeY, LtY};
 ghost use Rattle.plan_spec.specs.Frame.{OnOrBeyond};
 ghost use Rattle.plan_grid.specs.Frame.{frame_seen, IsPast};
+ghost use Rattle.plan_grid.specs.Order.{IsOrder};
 ghost use Rattle.plan_grid.specs.Spot.{spot_seen};
 
 use crate::order::fraction_order;
 use crate::point::Point;
 use crate::spot::Spot;
+use std::cmp::Ordering;
 
 /// An axis-parallel rectangle, by its lower left and its upper right corner. As a type it takes any two spots; those of
 /// a document have the first strictly left of and below the second.
@@ -66,30 +68,44 @@ fn is_high(z: &Point, p: Spot) -> bool
     !(is_left(z, p) && is_below(z, p))
 }
 
+// How the x of `z` stands to that of `p`.
+fn x_order(z: &Point, p: Spot) -> Ordering
+    ensures { IsOrder result (z.now.x *ℤ pos 1) (p.x *ℤ z.now.w) }
+{
+    fraction_order(z.x(), z.w(), i64::from(p.x), 1)
+}
+
+// How the y of `z` stands to that of `p`.
+fn y_order(z: &Point, p: Spot) -> Ordering
+    ensures { IsOrder result (z.now.y *ℤ pos 1) (p.y *ℤ z.now.w) }
+{
+    fraction_order(z.y(), z.w(), i64::from(p.y), 1)
+}
+
 // Whether `z` is left of `p`.
 fn is_left(z: &Point, p: Spot) -> bool
     ensures { IsTrue result ↔ LtX z.now (spot_seen p) }
 {
-    fraction_order(z.x(), z.w(), i64::from(p.x), 1).is_lt()
+    x_order(z, p).is_lt()
 }
 
 // Whether `z` is right of `p`.
 fn is_right(z: &Point, p: Spot) -> bool
     ensures { IsTrue result ↔ LtX (spot_seen p) z.now }
 {
-    fraction_order(z.x(), z.w(), i64::from(p.x), 1).is_gt()
+    x_order(z, p).is_gt()
 }
 
 // Whether `z` is below `p`.
 fn is_below(z: &Point, p: Spot) -> bool
     ensures { IsTrue result ↔ LtY z.now (spot_seen p) }
 {
-    fraction_order(z.y(), z.w(), i64::from(p.y), 1).is_lt()
+    y_order(z, p).is_lt()
 }
 
 // Whether `z` is above `p`.
 fn is_above(z: &Point, p: Spot) -> bool
     ensures { IsTrue result ↔ LtY (spot_seen p) z.now }
 {
-    fraction_order(z.y(), z.w(), i64::from(p.y), 1).is_gt()
+    y_order(z, p).is_gt()
 }

@@ -5,8 +5,6 @@ use super::*;
 use std::cmp::Ordering;
 use std::process::Abort;
 
-const MOST: i64 = 1 << 51;
-
 fn spot(x: i32, y: i32) -> Spot
     ensures x { result.x ≡ x }
     ensures y { result.y ≡ y }
@@ -14,16 +12,55 @@ fn spot(x: i32, y: i32) -> Spot
     Spot { x, y }
 }
 
+// The numbers of a row, which has N of them.
+fn numbers<const N: usize>(rt: &impl Abort, row: &str) -> [i64; N] {
+    let mut found = [0; N];
+    let mut count = 0;
+    for word in row.split(' ') {
+        assert!(rt; count < N, "{row}");
+        found[count] = word.parse::<i64>().ok().expect(rt, "a number");
+        count += 1;
+    }
+    assert!(rt; count == N, "{row}");
+    found
+}
+
 // The fraction `num / den`, which is in range.
-fn ratio(rt: &impl Abort, num: i128, den: i128) -> Ratio {
+fn ratio(rt: &impl Abort, num: i64, den: i64) -> Ratio {
     assert!(rt; 1 <= den && den <= 1 << 52);
-    assert!(rt; num.unsigned_abs() <= 2046 * den.unsigned_abs());
-    Ratio::new(num, den)
+    assert!(rt; i128::from(num).unsigned_abs() <= 2046 * i128::from(den).unsigned_abs());
+    Ratio::new(i128::from(num), i128::from(den))
+}
+
+// Whether the fraction is kept as `num / den`.
+fn is_kept_as(a: Ratio, num: i64, den: i64) -> bool {
+    a.num() == i128::from(num) && a.den() == i128::from(den)
+}
+
+// Whether the point is kept as (`x / w`, `y / w`).
+fn is_kept_at(p: &Point, x: i64, y: i64, w: i64) -> bool {
+    p.x() == x && p.y() == y && p.w() == w
 }
 
 // The point at (`x / w`, `y / w`), which is in range.
 fn point(rt: &impl Abort, x: i64, y: i64, w: i64) -> Point {
     Point::new(x, y, w).expect(rt, "a point in range")
+}
+
+// A spot with coordinates of at most 2046 in absolute value.
+fn within(rt: &impl Abort, x: i64, y: i64) -> Spot
+    ensures { IsWithin MOST_COORDINATE result }
+{
+    assert!(rt; -2046 <= x && x <= 2046);
+    assert!(rt; -2046 <= y && y <= 2046);
+    spot(x as i32, y as i32)
+}
+
+// Stops the program where the denominator is not below 2^25.
+fn check_small(rt: &impl Abort, a: Ratio)
+    ensures { unsigned_abs a.den < 2 ^ 25 }
+{
+    assert!(rt; a.den() < 1 << 25);
 }
 
 // The middle of two, whose denominators are small.
@@ -75,173 +112,187 @@ fn height_between(a: Spot, b: Spot, x: Ratio) -> Option<Ratio>
     Some(height(a, b, x))
 }
 
-// Each point as it is kept, and None where it is refused.
+// A point, and how it is kept.
+const KEPT: &str = "2 4 6 1 2 3
+-6 0 4 -3 0 2
+0 0 7 0 0 1
+1 1 2251799813685248 1 1 2251799813685248
+2046 -2046 1 2046 -2046 1
+4607182418800017408 -4607182418800017408 2251799813685248 2046 -2046 1";
+
 #[test]
 fn points_are_kept_in_lowest_terms(rt: HostRuntime) {
-    for (x, y, w, want) in [
-        (2, 4, 6, Some((1, 2, 3))),
-        (-6, 0, 4, Some((-3, 0, 2))),
-        (0, 0, 7, Some((0, 0, 1))),
-        (1, 1, 0, None),
-        (1, 1, -1, None),
-        (1, 1, MOST, Some((1, 1, MOST))),
-        (1, 1, MOST + 1, None),
-        (2046, -2046, 1, Some((2046, -2046, 1))),
-        (2047, 0, 1, None),
-        (0, -2047, 1, None),
-        (2046 * MOST, -2046 * MOST, MOST, Some((2046, -2046, 1))),
-        (2046 * MOST + 1, 0, MOST, None),
-        (0, -2046 * MOST - 1, MOST, None),
-        (i64::MIN, 0, 1, None),
-        (0, i64::MIN, MOST, None),
-        (0, 0, i64::MIN, None),
-    ] {
-        let got = Point::new(x, y, w).map(|p| (p.x(), p.y(), p.w()));
-        assert_eq!(rt; got, want, "at {x} {y} {w}");
+    for row in KEPT.lines() {
+        let [x, y, w, kept_x, kept_y, kept_w] = numbers::<6>(&rt, row);
+        assert!(rt;
+            is_kept_at(&point(&rt, x, y, w), kept_x, kept_y, kept_w),
+            "{row}"
+        );
     }
-    let origin = Point::of(spot(-7, 2046));
-    assert_eq!(rt; (origin.x(), origin.y(), origin.w()), (-7, 2046, 1));
+    assert!(rt; is_kept_at(&Point::of(spot(-7, 2046)), -7, 2046, 1));
+}
+
+// Points with a weight or a coordinate out of range.
+const OUT_OF_RANGE: &str = "1 1 0
+1 1 -1
+1 1 2251799813685249
+2047 0 1
+0 -2047 1
+4607182418800017409 0 2251799813685248
+0 -4607182418800017409 2251799813685248
+-9223372036854775808 0 1
+0 -9223372036854775808 2251799813685248
+0 0 -9223372036854775808";
+
+#[test]
+fn points_out_of_range_are_none(rt: HostRuntime) {
+    for row in OUT_OF_RANGE.lines() {
+        let [x, y, w] = numbers::<3>(&rt, row);
+        assert!(rt; Point::new(x, y, w).is_none(), "{row}");
+    }
+}
+
+// Two points, and how the first stands to the second.
+const ORDERED: &str = "1 2 3 1 0 2 -1
+1 2 3 2 4 6 0
+1 2 3 1 1 3 1
+-1 5 2 -1 5 3 -1
+4607182418800017407 0 2251799813685248 2046 0 1 -1
+-2046 -1 1 -2046 -2251799813685247 2251799813685248 -1";
+
+// Whether all that compares two points tells the same.
+fn are_ordered(p: &Point, q: &Point, want: Ordering) -> bool {
+    compare(p, q) == want
+        && compare(q, p) == want.reverse()
+        && p.cmp(q) == want
+        && (p == q) == (want == Ordering::Equal)
 }
 
 #[test]
 fn points_are_ordered_by_x_then_by_y(rt: HostRuntime) {
-    for (a, b, want) in [
-        ((1, 2, 3), (1, 0, 2), Ordering::Less),
-        ((1, 2, 3), (2, 4, 6), Ordering::Equal),
-        ((1, 2, 3), (1, 1, 3), Ordering::Greater),
-        ((-1, 5, 2), (-1, 5, 3), Ordering::Less),
-        ((2046 * MOST - 1, 0, MOST), (2046, 0, 1), Ordering::Less),
-        ((-2046, -1, 1), (-2046, 1 - MOST, MOST), Ordering::Less),
-    ] {
-        let p = point(&rt, a.0, a.1, a.2);
-        let q = point(&rt, b.0, b.1, b.2);
-        assert_eq!(rt; compare(&p, &q), want, "at {a:?} {b:?}");
-        assert_eq!(rt; compare(&q, &p), want.reverse(), "at {b:?} {a:?}");
-        assert_eq!(rt; p.cmp(&q), want, "at {a:?} {b:?}");
-        assert_eq!(rt; p == q, want == Ordering::Equal, "at {a:?} {b:?}");
+    for row in ORDERED.lines() {
+        let [px, py, pw, qx, qy, qw, want] = numbers::<7>(&rt, row);
+        let (p, q) = (point(&rt, px, py, pw), point(&rt, qx, qy, qw));
+        assert!(rt; are_ordered(&p, &q, want.cmp(&0)), "{row}");
     }
 }
 
-// The left side of the way from the first point to the second is Greater.
+// Two points, a spot, and on which side of the way from the first point to the second it is: 1 is the left.
+const SIDES: &str = "0 0 1 1 0 2 0 1 1
+0 0 1 1 0 2 5 0 0
+0 0 1 1 0 2 0 -1 -1
+1 0 2 0 0 1 0 1 -1
+1 1 3 1 1 2 7 7 0
+1 1 3 1 2 2 7 7 -1
+4607182418800017407 -4607182418800017407 2251799813685248 -4607182418800017407 4607182418800017407 2251799813685248 -2046 -2046 1
+4607182418800017407 -4607182418800017407 2251799813685248 -4607182418800017407 4607182418800017407 2251799813685248 2046 -2046 0
+4607182418800017407 4607182418800017407 2251799813685248 -4607182418800017407 -4607182418800017407 2251799813685248 -2046 2046 -1";
+
 #[test]
 fn spots_lie_left_or_right_of_a_line(rt: HostRuntime) {
-    let far = 2046 * MOST - 1;
-    for (a, b, x, y, want) in [
-        ((0, 0, 1), (1, 0, 2), 0, 1, Ordering::Greater),
-        ((0, 0, 1), (1, 0, 2), 5, 0, Ordering::Equal),
-        ((0, 0, 1), (1, 0, 2), 0, -1, Ordering::Less),
-        ((1, 0, 2), (0, 0, 1), 0, 1, Ordering::Less),
-        ((1, 1, 3), (1, 1, 2), 7, 7, Ordering::Equal),
-        ((1, 1, 3), (1, 2, 2), 7, 7, Ordering::Less),
-        (
-            (far, -far, MOST),
-            (-far, far, MOST),
-            -2046,
-            -2046,
-            Ordering::Greater,
-        ),
-        (
-            (far, -far, MOST),
-            (-far, far, MOST),
-            2046,
-            -2046,
-            Ordering::Equal,
-        ),
-        (
-            (far, far, MOST),
-            (-far, -far, MOST),
-            -2046,
-            2046,
-            Ordering::Less,
-        ),
-    ] {
-        assert!(rt; -2046 <= x && x <= 2046 && -2046 <= y && y <= 2046);
-        let p = point(&rt, a.0, a.1, a.2);
-        let q = point(&rt, b.0, b.1, b.2);
-        assert_eq!(rt; side_of(&p, &q, spot(x, y)), want, "at {a:?} {b:?} {x} {y}");
+    for row in SIDES.lines() {
+        let [px, py, pw, qx, qy, qw, x, y, want] = numbers::<9>(&rt, row);
+        let (p, q) = (point(&rt, px, py, pw), point(&rt, qx, qy, qw));
+        let side = side_of(&p, &q, within(&rt, x, y));
+        assert!(rt; side == want.cmp(&0), "{row}");
     }
 }
 
-// The side of a third spot, and where a spot or a rational point lies.
+// A spot, and twice the signed area of the triangle that it makes with (0, 0) and (4, 2).
+const AREAS: &str = "1 1 2
+6 3 0
+1 0 -2";
+
+// Whether the spot has the signed area, and it and a point at its place have the orientation.
+fn has_area(c: Spot, z: &Point, area: i64) -> bool {
+    let (a, b) = (spot(0, 0), spot(4, 2));
+    let want = area.cmp(&0);
+    side(a, b, c) == i128::from(area)
+        && orientation(a, b, c) == want
+        && orientation_at(a, b, z) == want
+}
+
 #[test]
 fn three_spots_have_a_side_and_an_orientation(rt: HostRuntime) {
-    let (a, b) = (spot(0, 0), spot(4, 2));
-    for (x, y, area, want) in [
-        (1, 1, 2, Ordering::Greater),
-        (6, 3, 0, Ordering::Equal),
-        (1, 0, -2, Ordering::Less),
-    ] {
-        let c = spot(x, y);
-        let z = point(&rt, 3 * i64::from(x), 3 * i64::from(y), 3);
-        assert_eq!(rt; side(a, b, c), area, "at {x} {y}");
-        assert_eq!(rt; orientation(a, b, c), want, "at {x} {y}");
-        assert_eq!(rt; orientation_at(a, b, &z), want, "at {x} {y}");
+    for row in AREAS.lines() {
+        let [x, y, area] = numbers::<3>(&rt, row);
+        let c = within(&rt, x, y);
+        assert!(rt; has_area(c, &Point::of(c), area), "{row}");
     }
-    assert_eq!(rt;
-        orientation_at(a, b, &point(&rt, 1, 1, 2)),
-        Ordering::Greater
-    );
-    assert_eq!(rt;
-        side(spot(i32::MIN, 0), spot(i32::MAX, 0), spot(0, i32::MAX)),
-        9223372030412324865
-    );
 }
 
 #[test]
-fn spots_are_added_and_compared_by_coordinates(rt: HostRuntime) {
+fn a_point_has_an_orientation_and_far_spots_have_a_side(rt: HostRuntime) {
+    let z = point(&rt, 1, 1, 2);
+    assert!(rt; orientation_at(spot(0, 0), spot(4, 2), &z).is_gt());
+    let far = side(spot(i32::MIN, 0), spot(i32::MAX, 0), spot(0, i32::MAX));
+    assert!(rt; far == 9223372030412324865);
+}
+
+#[test]
+fn spots_are_added_by_coordinates(rt: HostRuntime) {
     let (a, b) = (near(1, -2), near(-3, 5));
     assert!(rt; a.plus(b) == spot(-2, 3));
     assert!(rt; a.minus(b) == spot(4, -7));
     assert!(rt; a.to(b) == spot(-4, 7));
     assert!(rt; a.opposite() == spot(-1, 2));
+}
+
+#[test]
+fn spots_are_compared_by_coordinates(rt: HostRuntime) {
+    let (a, b) = (near(1, -2), near(-3, 5));
     assert!(rt; a.least(b) == spot(-3, -2));
     assert!(rt; a.greatest(b) == spot(1, 5));
     assert!(rt; b.is_before(a) && !a.is_before(b) && !a.is_before(a));
     assert!(rt; spot(1, -3).is_before(a));
 }
 
-#[test]
-fn frames_hold_what_is_strictly_between_their_sides(rt: HostRuntime) {
-    let frame = Frame {
+// From (-1, -2) to (3, 4).
+fn frame() -> Frame {
+    Frame {
         low: spot(-1, -2),
         high: spot(3, 4),
-    };
-    for (x, y, want) in [
-        (0, 0, false),
-        (-1, 0, true),
-        (3, 0, true),
-        (0, -2, true),
-        (0, 4, true),
-        (9, 9, true),
-        (2, 3, false),
-    ] {
-        assert!(rt; frame.is_on_or_beyond(spot(x, y)) == want, "at {x} {y}");
     }
 }
 
-// What is on a side is no longer strictly inside, and not yet strictly beyond.
+// A spot, and 1 where it is not strictly inside.
+const AROUND: &str = "0 0 0
+-1 0 1
+3 0 1
+0 -2 1
+0 4 1
+9 9 1
+2 3 0";
+
+#[test]
+fn frames_hold_what_is_strictly_between_their_sides(rt: HostRuntime) {
+    for row in AROUND.lines() {
+        let [x, y, touched] = numbers::<3>(&rt, row);
+        let p = within(&rt, x, y);
+        assert!(rt; frame().is_on_or_beyond(p) == (touched == 1), "{row}");
+    }
+}
+
+// A point; 1 where it is no longer strictly inside, and 1 where it is strictly beyond.
+const AROUND_AT: &str = "1 1 2 0 0
+-1 0 1 1 0
+-5 0 4 1 1
+-3 0 4 0 0
+5 -4 2 1 0
+5 -5 2 1 1
+9 5 3 1 0
+10 5 3 1 1
+1 13 3 1 1
+1 12 3 1 0
+8 11 3 0 0";
+
 #[test]
 fn frames_tell_where_rational_points_are(rt: HostRuntime) {
-    let frame = Frame {
-        low: spot(-1, -2),
-        high: spot(3, 4),
-    };
-    for (x, y, w, touched, past) in [
-        (1, 1, 2, false, false),
-        (-1, 0, 1, true, false),
-        (-5, 0, 4, true, true),
-        (-3, 0, 4, false, false),
-        (5, -4, 2, true, false),
-        (5, -5, 2, true, true),
-        (9, 5, 3, true, false),
-        (10, 5, 3, true, true),
-        (1, 13, 3, true, true),
-        (1, 12, 3, true, false),
-        (8, 11, 3, false, false),
-    ] {
+    for row in AROUND_AT.lines() {
+        let [x, y, w, touched, past] = numbers::<5>(&rt, row);
         let z = point(&rt, x, y, w);
-        assert!(rt; frame.is_on_or_beyond_at(&z) == touched, "at {x} {y} {w}");
-        assert!(rt; frame.is_past(&z) == past, "at {x} {y} {w}");
+        assert!(rt; frame().is_on_or_beyond_at(&z) == (touched == 1), "{row}");
+        assert!(rt; frame().is_past(&z) == (past == 1), "{row}");
     }
 }
 
@@ -262,102 +313,145 @@ fn triangles_begin_at_their_least_corner(rt: HostRuntime) {
     assert!(rt; from_least([b, a, c]) == [a, c, b]);
 }
 
+// A point, and 1 where the segment from (4, 2) to (0, 0) has it.
+const ON: &str = "2 1 1 1
+0 0 1 1
+4 2 1 1
+3 3 4 0
+6 3 4 1
+6 3 1 0
+-2 -1 1 0";
+
 #[test]
 fn segments_hold_their_points(rt: HostRuntime) {
-    let (a, b) = (spot(4, 2), spot(0, 0));
-    for (x, y, w, want) in [
-        (2, 1, 1, true),
-        (0, 0, 1, true),
-        (4, 2, 1, true),
-        (3, 3, 4, false),
-        (6, 3, 4, true),
-        (6, 3, 1, false),
-        (-2, -1, 1, false),
-    ] {
-        assert_eq!(rt;
-            on_segment(a, b, &point(&rt, x, y, w)),
-            want,
-            "at {x} {y} {w}"
+    for row in ON.lines() {
+        let [x, y, w, on] = numbers::<4>(&rt, row);
+        let z = point(&rt, x, y, w);
+        assert!(rt;
+            on_segment(spot(4, 2), spot(0, 0), &z) == (on == 1),
+            "{row}"
         );
     }
+}
+
+#[test]
+fn a_segment_without_length_holds_its_point(rt: HostRuntime) {
+    let a = spot(4, 2);
     assert!(rt; on_segment(a, a, &point(&rt, 8, 4, 2)));
     assert!(rt; !on_segment(a, a, &point(&rt, 2, 1, 1)));
 }
 
+// A fraction, and how it is kept.
+const RATIOS: &str = "6 4 3 2
+-6 4 -3 2
+0 7 0 1
+1 4503599627370496 1 4503599627370496
+9214364837600034816 4503599627370496 2046 1
+-9214364837600034816 4503599627370496 -2046 1
+-9214364837600034815 4503599627370496 -9214364837600034815 4503599627370496";
+
 #[test]
 fn ratios_are_kept_in_lowest_terms(rt: HostRuntime) {
-    let most = 1 << 52;
-    for (num, den, want) in [
-        (6, 4, (3, 2)),
-        (-6, 4, (-3, 2)),
-        (0, 7, (0, 1)),
-        (1, most, (1, most)),
-        (2046 * most, most, (2046, 1)),
-        (-2046 * most, most, (-2046, 1)),
-        (1 - 2046 * most, most, (1 - 2046 * most, most)),
-    ] {
-        let got = ratio(&rt, num, den);
-        assert_eq!(rt; (got.num(), got.den()), want, "at {num} {den}");
+    for row in RATIOS.lines() {
+        let [num, den, kept_num, kept_den] = numbers::<4>(&rt, row);
+        assert!(rt;
+            is_kept_as(ratio(&rt, num, den), kept_num, kept_den),
+            "{row}"
+        );
     }
 }
+
+// Two fractions, and how the first stands to the second.
+const RATIO_ORDERS: &str = "1 3 1 2 -1
+2 4 1 2 0
+-1 2 1 3 -1
+-1 3 -1 2 1
+1 4503599627370496 1 4503599627370495 -1
+9214364837600034815 4503599627370496 2046 1 -1";
 
 #[test]
 fn ratios_are_ordered_by_value(rt: HostRuntime) {
-    let most = 1 << 52;
-    for (a, b, want) in [
-        ((1, 3), (1, 2), Ordering::Less),
-        ((2, 4), (1, 2), Ordering::Equal),
-        ((-1, 2), (1, 3), Ordering::Less),
-        ((-1, 3), (-1, 2), Ordering::Greater),
-        ((1, most), (1, most - 1), Ordering::Less),
-        ((2046 * most - 1, most), (2046, 1), Ordering::Less),
-    ] {
-        let p = ratio(&rt, a.0, a.1);
-        let q = ratio(&rt, b.0, b.1);
-        assert_eq!(rt; p.cmp(&q), want, "at {a:?} {b:?}");
-        assert_eq!(rt; p == q, want == Ordering::Equal, "at {a:?} {b:?}");
-        assert_eq!(rt; p < q, want == Ordering::Less, "at {a:?} {b:?}");
+    for row in RATIO_ORDERS.lines() {
+        let [a_num, a_den, b_num, b_den, want] = numbers::<5>(&rt, row);
+        let (a, b) = (ratio(&rt, a_num, a_den), ratio(&rt, b_num, b_den));
+        assert!(rt; a.cmp(&b) == want.cmp(&0), "{row}");
+        assert!(rt; (a == b) == (want == 0) && (a < b) == (want < 0), "{row}");
     }
 }
 
-// Each pair with its mediant, its middle and the point that has the two as coordinates.
+// Two fractions and their mediant.
+const MEDIANTS: &str = "1 2 2 3 3 5
+1 2 1 3 2 5
+1 2 3 2 1 1
+-1 4 1 6 0 1
+0 1 -5 1 -5 2
+7 12 5 18 2 5
+-2046 1 2046 1 0 1";
+
 #[test]
-fn pairs_of_ratios_give_mediants_middles_and_points(rt: HostRuntime) {
-    for (a, b, between, mid, at) in [
-        ((1, 2), (2, 3), (3, 5), (7, 12), (3, 4, 6)),
-        ((1, 2), (1, 3), (2, 5), (5, 12), (3, 2, 6)),
-        ((1, 2), (3, 2), (1, 1), (1, 1), (1, 3, 2)),
-        ((-1, 4), (1, 6), (0, 1), (-1, 24), (-3, 2, 12)),
-        ((0, 1), (-5, 1), (-5, 2), (-5, 2), (0, -5, 1)),
-        ((7, 12), (5, 18), (2, 5), (31, 72), (21, 10, 36)),
-        ((-2046, 1), (2046, 1), (0, 1), (0, 1), (-2046, 2046, 1)),
-    ] {
-        let p = ratio(&rt, a.0, a.1);
-        let q = ratio(&rt, b.0, b.1);
-        assert!(rt; p.den() < 1 << 25);
-        assert!(rt; q.den() < 1 << 25);
-        let (m, h, z) = (mediant(p, q), half(p, q), point_from(p, q));
-        assert_eq!(rt; (m.num(), m.den()), between, "mediant at {a:?} {b:?}");
-        assert_eq!(rt; (h.num(), h.den()), mid, "middle at {a:?} {b:?}");
-        assert_eq!(rt; (z.x(), z.y(), z.w()), at, "point at {a:?} {b:?}");
+fn ratios_have_a_mediant(rt: HostRuntime) {
+    for row in MEDIANTS.lines() {
+        let [a_num, a_den, b_num, b_den, num, den] = numbers::<6>(&rt, row);
+        let (a, b) = (ratio(&rt, a_num, a_den), ratio(&rt, b_num, b_den));
+        assert!(rt; is_kept_as(mediant(a, b), num, den), "{row}");
     }
 }
+
+// Two fractions and their middle.
+const MIDDLES: &str = "1 2 2 3 7 12
+1 2 1 3 5 12
+1 2 3 2 1 1
+-1 4 1 6 -1 24
+0 1 -5 1 -5 2
+7 12 5 18 31 72
+-2046 1 2046 1 0 1";
+
+#[test]
+fn ratios_have_a_middle(rt: HostRuntime) {
+    for row in MIDDLES.lines() {
+        let [a_num, a_den, b_num, b_den, num, den] = numbers::<6>(&rt, row);
+        let (a, b) = (ratio(&rt, a_num, a_den), ratio(&rt, b_num, b_den));
+        check_small(&rt, a);
+        check_small(&rt, b);
+        assert!(rt; is_kept_as(half(a, b), num, den), "{row}");
+    }
+}
+
+// Two fractions, and the point that has them as coordinates.
+const COORDINATES: &str = "1 2 2 3 3 4 6
+1 2 1 3 3 2 6
+1 2 3 2 1 3 2
+-1 4 1 6 -3 2 12
+0 1 -5 1 0 -5 1
+7 12 5 18 21 10 36
+-2046 1 2046 1 -2046 2046 1";
+
+#[test]
+fn ratios_are_coordinates_of_a_point(rt: HostRuntime) {
+    for row in COORDINATES.lines() {
+        let [x_num, x_den, y_num, y_den, x, y, w] = numbers::<7>(&rt, row);
+        let (a, b) = (ratio(&rt, x_num, x_den), ratio(&rt, y_num, y_den));
+        check_small(&rt, a);
+        check_small(&rt, b);
+        assert!(rt; is_kept_at(&point_from(a, b), x, y, w), "{row}");
+    }
+}
+
+// The ends of a segment, an x between them, and the height there.
+const HEIGHTS: &str = "0 0 4 2 3 2 3 4
+0 0 3 1 1 1 1 3
+-1 5 1 -5 1 2 -5 2
+0 7 5 9 0 1 7 1
+0 7 5 9 5 1 9 1
+-128 3 127 3 1 3 3 1
+-127 -127 127 126 0 1 -1 2";
 
 #[test]
 fn segments_have_a_height_at_each_x_between_their_ends(rt: HostRuntime) {
-    for (ax, ay, bx, by, x, want) in [
-        (0, 0, 4, 2, (3, 2), (3, 4)),
-        (0, 0, 3, 1, (1, 1), (1, 3)),
-        (-1, 5, 1, -5, (1, 2), (-5, 2)),
-        (0, 7, 5, 9, (0, 1), (7, 1)),
-        (0, 7, 5, 9, (5, 1), (9, 1)),
-        (-128, 3, 127, 3, (1, 3), (3, 1)),
-        (-127, -127, 127, 126, (0, 1), (-1, 2)),
-    ] {
-        let y = height_between(near(ax, ay), near(bx, by), ratio(&rt, x.0, x.1)).map(|y| (
-            y.num(),
-            y.den(),
-        ));
-        assert_eq!(rt; y, Some(want), "at {ax} {ay} {bx} {by}");
+    for row in HEIGHTS.lines() {
+        let [ax, ay, bx, by, x_num, x_den, num, den] = numbers::<8>(&rt, row);
+        let (a, b) = (within(&rt, ax, ay), within(&rt, bx, by));
+        let height = height_between(a, b, ratio(&rt, x_num, x_den)).expect(&rt, row);
+        assert!(rt; is_kept_as(height, num, den), "{row}");
     }
 }

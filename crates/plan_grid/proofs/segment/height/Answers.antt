@@ -30,6 +30,19 @@ b_y c =
 x_positive : (c : After-get-2) → pos 0 <ℤ c.args.x.den
 x_positive c = let h = c.way_to.ensures.in_range.positive in omega (arith, linear)
 
+pub times-requires : goal.times-requires
+times-requires c =
+    let left_size : unsigned_abs c.negated-left.result ≤ 2 ^ 38 = omega (arith, c.negated-left.ensures.size, c.way_to.ensures.size) in
+    omega (arith, product_at_most _ _ _ _ c.from.ensures.1 left_size)
+
+pub times-requires-2 : goal.times-requires-2
+times-requires-2 c =
+    let past_size : unsigned_abs c.way_to-past.result ≤ 2 ^ 38 = omega (arith, c.way_to-past.ensures.size) in
+    omega (arith, product_at_most _ _ _ _ c.from-2.ensures.1 past_size)
+
+pub plus-requires : goal.plus-requires
+plus-requires c = omega (arith, c.way_to-past.ensures.size, c.negated-left.ensures.size, c.way_to.ensures.size)
+
 pub plus-rise-requires : goal.plus-rise-requires
 plus-rise-requires c =
     let left_size : unsigned_abs c.negated-left.result ≤ 2 ^ 38 = omega (arith, c.negated-left.ensures.size, c.way_to.ensures.size) in

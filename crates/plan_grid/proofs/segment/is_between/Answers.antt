@@ -1,6 +1,13 @@
 -- One of the two orders of the ends is tested after the other.
-use Rattle.std.proofs.Common.{rules, SFits, to_z-of_z, w32, w64, inl, inr}
+use Rattle.std.proofs.Common.{rules, SFits, to_z-of_z, w32, w64, inl, inr, arith}
+use Rattle.plan_exact.proofs.Sizes.{product_at_most}
 use Rattle.plan_grid.proofs.segment.is_between.Goals as goal
+
+pub times-a-requires : goal.times-a-requires
+times-a-requires c = omega (arith, product_at_most _ _ _ _ c.from.ensures.1 c.requires)
+
+pub times-b-requires : goal.times-b-requires
+times-b-requires c = omega (arith, product_at_most _ _ _ _ c.from-2.ensures.1 c.requires)
 
 pub returns-then-is_within : goal.returns-then-is_within
 returns-then-is_within c =

@@ -40,3 +40,23 @@ pub height-requires-clause-den_bounded : goal.height-requires-clause-den_bounded
 height-requires-clause-den_bounded c =
     let d : SFits w128 c.den-den.result = search rules in
     rw (← c.den-den.ensures.value) (not_reached (2 ^ 26) c.den-den.result (simp to_z-of_z at c.if-den.false) (rw c.den-den.ensures.value c.den-den.ensures.in_range.positive))
+
+pub overflow_mul-left : goal.overflow_mul-left
+overflow_mul-left c =
+    let narrow : SFits w32 c.args.a.x = search rules in
+    let value = simp to_z-of_z at c.from.ensures in
+    let wide : SFits w128 c.from.result = search rules in
+    let d : SFits w128 c.den-den.result = search rules in
+    let small : unsigned_abs c.from.result ≤ 2 ^ 31 = rw value (omega (arith, ints, narrow.sfits)) in
+    let d_small : unsigned_abs c.den-den.result ≤ 2 ^ 52 = rw c.den-den.ensures.value c.den-den.ensures.in_range.den_bounded in
+    rw (to_z-of_z wide, to_z-of_z d) (product_fits c.from.result c.den-den.result small d_small)
+
+pub overflow_mul-right : goal.overflow_mul-right
+overflow_mul-right c =
+    let narrow : SFits w32 c.args.b.x = search rules in
+    let value = simp to_z-of_z at c.from-2.ensures in
+    let wide : SFits w128 c.from-2.result = search rules in
+    let d : SFits w128 c.den-den.result = search rules in
+    let small : unsigned_abs c.from-2.result ≤ 2 ^ 31 = rw value (omega (arith, ints, narrow.sfits)) in
+    let d_small : unsigned_abs c.den-den.result ≤ 2 ^ 52 = rw c.den-den.ensures.value c.den-den.ensures.in_range.den_bounded in
+    rw (to_z-of_z wide, to_z-of_z d) (product_fits c.from-2.result c.den-den.result small d_small)

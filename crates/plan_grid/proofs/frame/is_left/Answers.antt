@@ -1,0 +1,5 @@
+use Rattle.plan_grid.proofs.Signs.{is_less}
+use Rattle.plan_grid.proofs.frame.is_left.Goals as goal
+
+pub returns : goal.returns
+returns c = rw c.is_lt.ensures (is_less _ _ _ c.x_order.ensures)
