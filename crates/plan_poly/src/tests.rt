@@ -1,151 +1,147 @@
-ghost use Rattle.std.specs.Prelude.{◌<◌, ◌^◌, length};
-
 use crate::{PolyFault, Polygon};
 use plan_grid::{Point, Spot};
 use std::alloc::{AllocError, Global};
 use std::process::Abort;
 
-fn at(x: i32, y: i32) -> Spot {
-    Spot { x, y }
-}
-
-fn read(alloc: Global, spots: &[Spot]) -> Result<Result<Polygon, PolyFault>, AllocError>
-    requires { length spots.now < 2 ^ 32 }
-{
-    Ok(Polygon::read(Vec::from_slice(alloc, spots)?))
-}
-
-// What the list is refused with.
-fn fault(rt: &impl Abort, alloc: Global, spots: &[Spot]) -> Option<PolyFault> {
-    assert!(rt; spots.len() < 100);
-    read(alloc, spots).expect(rt, "memory").err()
-}
-
-// An L, counterclockwise from its least vertex.
-fn ell() -> [Spot; 6] {
-    [at(0, 0), at(4, 0), at(4, 2), at(2, 2), at(2, 4), at(0, 4)]
-}
-
-#[test]
-fn refuses_too_few_too_many_and_too_far(rt: HostRuntime) {
-    let alloc = rt.alloc();
-    assert_eq!(rt; fault(&rt, alloc, &[]), Some(PolyFault::Few(0)));
-    assert_eq!(rt;
-        fault(&rt, alloc, &[at(0, 0), at(1, 0)]),
-        Some(PolyFault::Few(2))
-    );
-    assert_eq!(rt;
-        fault(&rt, alloc, &[at(0, 0); 33]),
-        Some(PolyFault::Many(33))
-    );
-    assert_eq!(rt;
-        fault(&rt, alloc, &[at(0, 0), at(1024, 0), at(0, 2000)]),
-        Some(PolyFault::Range(1))
-    );
-    assert_eq!(rt;
-        fault(&rt, alloc, &[at(0, 0), at(1023, 0), at(0, -1024)]),
-        Some(PolyFault::Range(2))
-    );
-    assert_eq!(rt;
-        fault(&rt, alloc, &[at(0, 0), at(1023, 0), at(0, -1023)]),
-        None
-    );
-}
-
-#[test]
-fn names_the_first_two_edges_that_meet_wrongly(rt: HostRuntime) {
-    let alloc = rt.alloc();
-    let crossing = [at(0, 0), at(2, 2), at(2, 0), at(0, 2)];
-    let flat = [at(0, 0), at(1, 0), at(2, 0)];
-    let touching = [at(0, 0), at(6, 0), at(6, 6), at(3, 0), at(0, 6)];
-    let overlapping = [at(0, 0), at(6, 0), at(6, 4), at(4, 0), at(2, 0), at(0, 4)];
-    let spike = [at(0, 4), at(0, 0), at(4, 0), at(8, 0), at(4, 0), at(4, 4)];
-    let three_equal = [at(1, 1); 3];
-    let two_equal = [at(0, 0), at(4, 0), at(4, 0), at(0, 4)];
-    let vertex_twice = [at(0, 0), at(4, 0), at(2, 2), at(4, 4), at(0, 4), at(2, 2)];
-    let late = [
-        at(0, 0),
-        at(9, 0),
-        at(9, 9),
-        at(6, 9),
-        at(6, 3),
-        at(3, 3),
-        at(3, 6),
-        at(8, 6),
-        at(8, 8),
-        at(0, 8),
-    ];
-    let cases: [(&[Spot], u32, u32); 9] = [
-        (&crossing, 0, 2),
-        (&flat, 0, 2),
-        (&touching, 0, 2),
-        (&overlapping, 0, 2),
-        (&spike, 1, 3),
-        (&three_equal, 0, 1),
-        (&two_equal, 0, 2),
-        (&vertex_twice, 1, 4),
-        (&late, 3, 6),
-    ];
-    for (spots, i, j) in cases {
-        assert_eq!(rt;
-            fault(&rt, alloc, spots),
-            Some(PolyFault::NotSimple(i, j)),
-            "edges {i} {j}"
-        );
+// The spots with these coordinates, x and y in turn.
+fn spots(alloc: Global, coordinates: &[i32]) -> Result<Vec<Spot>, AllocError> {
+    let mut spots = Vec::new(alloc);
+    for k in 0..coordinates.len() / 2 {
+        spots.push(Spot {
+            x: coordinates[2 * k],
+            y: coordinates[2 * k + 1],
+        })?;
     }
+    Ok(spots)
+}
+
+// Reads a list that has few spots.
+fn read(rt: &impl Abort, list: Vec<Spot>) -> Result<Polygon, PolyFault> {
+    assert!(rt; list.len() < 100);
+    Polygon::read(list)
+}
+
+// The list must be refused with this fault.
+fn refused(
+    rt: &impl Abort,
+    alloc: Global,
+    coordinates: &[i32],
+    want: PolyFault,
+) -> Result<(), AllocError> {
+    let found = read(rt, spots(alloc, coordinates)?).err();
+    assert_eq!(rt; found, Some(want));
+    Ok(())
+}
+
+// The list must be a polygon that is kept in this way.
+fn kept(rt: &impl Abort, list: Vec<Spot>, want: &[Spot]) {
+    let polygon = read(rt, list).ok().expect(rt, "simple");
+    assert!(rt; polygon.spots() == want);
+}
+
+// The polygon must be kept in the same way where its list begins at another vertex, and where it runs the other way.
+fn kept_from(
+    rt: &impl Abort,
+    alloc: Global,
+    polygon: &[Spot],
+    first: usize,
+) -> Result<(), AllocError> {
+    let mut list = Vec::from_slice(alloc, polygon)?;
+    assert!(rt; first < list.len());
+    list.rotate_left(first);
+    let mut back = Vec::from_slice(alloc, &list)?;
+    back.reverse();
+    kept(rt, list, polygon);
+    kept(rt, back, polygon);
+    Ok(())
+}
+
+// Each point, by its x, y and weight in turn, must be held, or none of them.
+fn held(rt: &impl Abort, polygon: &Polygon, points: &[i64], want: bool) {
+    for k in 0..points.len() / 3 {
+        let z = Point::new(points[3 * k], points[3 * k + 1], points[3 * k + 2]).expect(
+            rt, "in range",
+        );
+        assert!(rt; polygon.holds(&z) == want, "point {k}");
+    }
+}
+
+#[test]
+fn refuses_too_few_and_too_many(rt: HostRuntime) -> Result<(), AllocError> {
+    let alloc = rt.alloc();
+    refused(&rt, alloc, &[], PolyFault::Few(0))?;
+    refused(&rt, alloc, &[0, 0, 1, 0], PolyFault::Few(2))?;
+    refused(&rt, alloc, &[0; 66], PolyFault::Many(33))
+}
+
+#[test]
+fn refuses_too_far(rt: HostRuntime) -> Result<(), AllocError> {
+    let alloc = rt.alloc();
+    refused(&rt, alloc, &[0, 0, 1024, 0, 0, 2000], PolyFault::Range(1))?;
+    refused(&rt, alloc, &[0, 0, 1023, 0, 0, -1024], PolyFault::Range(2))?;
+    let farthest = spots(alloc, &[0, 0, 1023, 0, 0, -1023])?;
+    assert!(rt; read(&rt, farthest).is_ok());
+    Ok(())
+}
+
+#[test]
+fn names_the_first_two_edges_that_meet_wrongly(rt: HostRuntime) -> Result<(), AllocError> {
+    let alloc = rt.alloc();
+    let crossing = [0, 0, 2, 2, 2, 0, 0, 2];
+    refused(&rt, alloc, &crossing, PolyFault::NotSimple(0, 2))?;
+    let touching = [0, 0, 6, 0, 6, 6, 3, 0, 0, 6];
+    refused(&rt, alloc, &touching, PolyFault::NotSimple(0, 2))?;
+    let vertex_twice = [0, 0, 4, 0, 2, 2, 4, 4, 0, 4, 2, 2];
+    refused(&rt, alloc, &vertex_twice, PolyFault::NotSimple(1, 4))?;
+    let late = [0, 0, 9, 0, 9, 9, 6, 9, 6, 3, 3, 3, 3, 6, 8, 6, 8, 8, 0, 8];
+    refused(&rt, alloc, &late, PolyFault::NotSimple(3, 6))
+}
+
+#[test]
+fn names_the_first_two_edges_that_overlap(rt: HostRuntime) -> Result<(), AllocError> {
+    let alloc = rt.alloc();
+    let flat = [0, 0, 1, 0, 2, 0];
+    refused(&rt, alloc, &flat, PolyFault::NotSimple(0, 2))?;
+    let overlapping = [0, 0, 6, 0, 6, 4, 4, 0, 2, 0, 0, 4];
+    refused(&rt, alloc, &overlapping, PolyFault::NotSimple(0, 2))?;
+    let spike = [0, 4, 0, 0, 4, 0, 8, 0, 4, 0, 4, 4];
+    refused(&rt, alloc, &spike, PolyFault::NotSimple(1, 3))?;
+    let three_equal = [1; 6];
+    refused(&rt, alloc, &three_equal, PolyFault::NotSimple(0, 1))?;
+    let two_equal = [0, 0, 4, 0, 4, 0, 0, 4];
+    refused(&rt, alloc, &two_equal, PolyFault::NotSimple(0, 2))
 }
 
 #[test]
 fn keeps_one_list_of_a_polygon(rt: HostRuntime) -> Result<(), AllocError> {
     let alloc = rt.alloc();
-    for turned in 0..6 {
-        let mut spots = Vec::from_slice(alloc, &ell())?;
-        spots.rotate_left(turned);
-        let polygon = read(alloc, &spots)?.ok().expect(&rt, "simple");
-        assert!(rt; polygon.spots() == ell().as_slice(), "from vertex {turned}");
-        spots.reverse();
-        let polygon = read(alloc, &spots)?.ok().expect(&rt, "simple");
-        assert!(rt;
-            polygon.spots() == ell().as_slice(),
-            "back from vertex {turned}"
-        );
+    let ell = spots(alloc, &[0, 0, 4, 0, 4, 2, 2, 2, 2, 4, 0, 4])?;
+    for first in 0..6 {
+        kept_from(&rt, alloc, &ell, first)?;
     }
     Ok(())
 }
 
 #[test]
 fn accepts_vertices_at_a_straight_angle(rt: HostRuntime) -> Result<(), AllocError> {
-    let list = [at(8, 8), at(8, 0), at(4, 0), at(0, 0), at(0, 8)];
-    let polygon = read(rt.alloc(), &list)?.ok().expect(&rt, "simple");
-    let want = [at(0, 0), at(4, 0), at(8, 0), at(8, 8), at(0, 8)];
-    assert!(rt; polygon.spots() == want.as_slice());
+    let list = spots(rt.alloc(), &[8, 8, 8, 0, 4, 0, 0, 0, 0, 8])?;
+    let want = spots(rt.alloc(), &[0, 0, 4, 0, 8, 0, 8, 8, 0, 8])?;
+    kept(&rt, list, &want);
     Ok(())
 }
 
 #[test]
 fn holds_its_inside_and_its_boundary(rt: HostRuntime) -> Result<(), AllocError> {
-    let dart = [at(0, 0), at(6, 1), at(2, 2), at(1, 6)];
-    let polygon = read(rt.alloc(), &dart)?.ok().expect(&rt, "simple");
-    for (x, y, w, want) in [
-        (0, 0, 1, true),
-        (6, 1, 1, true),
-        (2, 2, 1, true),
-        (1, 6, 1, true),
-        (4, 3, 2, true),
-        (6, 1, 2, true),
-        (3, 8, 2, true),
-        (1, 1, 1, true),
-        (3, 2, 1, false),
-        (2, 4, 1, false),
-        (2, 3, 1, false),
-        (2, 0, 1, false),
-        (1, 7, 1, false),
-        (1, -1, 1, false),
-        (-1, 0, 1, false),
-        (7, 1, 1, false),
-    ] {
-        let z = Point::new(x, y, w).expect(&rt, "a point in range");
-        assert_eq!(rt; polygon.holds(&z), want, "at {x}/{w} {y}/{w}");
-    }
+    let dart = spots(rt.alloc(), &[0, 0, 6, 1, 2, 2, 1, 6])?;
+    let polygon = read(&rt, dart).ok().expect(&rt, "simple");
+    held(&rt, &polygon, &[0, 0, 1, 6, 1, 1, 2, 2, 1, 1, 6, 1], true);
+    held(&rt, &polygon, &[4, 3, 2, 6, 1, 2, 3, 8, 2, 1, 1, 1], true);
+    held(&rt, &polygon, &[3, 2, 1, 2, 4, 1, 2, 3, 1, 2, 0, 1], false);
+    held(
+        &rt,
+        &polygon,
+        &[1, 7, 1, 1, -1, 1, -1, 0, 1, 7, 1, 1],
+        false,
+    );
     Ok(())
 }

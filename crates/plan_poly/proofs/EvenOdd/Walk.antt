@@ -1,9 +1,9 @@
 -- A walk over the edges one by one: on none so far, and under an odd number of them or not.
-use Rattle.std.proofs.Common.{◌≡◌, ℕ, ◌+◌, ◌<◌, ◌≤◌, Bool, List, [], ◌∷◌, ◌++◌, take, length, Some, All, sym, ap, ap₂, subst, ◌∙◌}
+use Rattle.std.proofs.Common.{◌≡◌, ℕ, ◌+◌, ◌<◌, ◌≤◌, Bool, List, [], ◌∷◌, ◌++◌, take, length, Some, All, Any, sym, ap, ap₂, subst, ◌∙◌}
 use Rattle.std.specs.Prelude.{slice_get}
 use Rattle.std.proofs.lemmas.List.{take_more, take_all}
 use Rattle.std.proofs.lemmas.List.Elements.{All-push}
-use Rattle.std.proofs.lemmas.Option.{get_or_from_slice_get}
+use Rattle.std.proofs.lemmas.Option.{get_or_from_slice_get, slice_get_within}
 use Rattle.plan_spec.specs.Vector.{Vector}
 use Rattle.plan_spec.specs.Segment.{Segment, On}
 use Rattle.plan_spec.specs.Parity.{over, parity, xor}
@@ -25,3 +25,7 @@ walked_more {ss} {i} {odd} {z} s over_s w within e off f = record {
 
 pub walked_all : {ss : List Segment} {i : ℕ} {odd : Bool} {z : Vector} → Walked ss i odd z → length ss ≤ i → All (λ s. ¬ (On s z)) ss × (odd ≡ parity ss z)
 walked_all {ss} {i} {odd} {z} w past = (subst (All (λ s. ¬ (On s z))) (take_all i ss past) w.off, w.count ∙ ap (λ ts. parity ts z) (take_all i ss past))
+
+-- the walk ends at an edge that has z
+pub has_one : (ss : List Segment) (i : ℕ) (s : Segment) (z : Vector) → slice_get ss i ≡ Some s → On s z → Any (λ s. On s z) ss
+has_one ss i s z e on = (i, s, slice_get_within ss i s e, get_or_from_slice_get ss i s s e, on)
