@@ -1,5 +1,5 @@
 -- The order of fractions with positive denominators, as `AtMost` and `Less` say it: by cross products.
-use Rattle.std.proofs.Common.{◌≡◌, ◌⊎◌, ℤ, pos, ◌*ℤ◌, ◌<ℤ◌, true, false, arith}
+use Rattle.std.proofs.Common.{◌≡◌, ◌⊎◌, pos, ◌*ℤ◌, ◌<ℤ◌, true, false, arith}
 use Rattle.plan_exact.proofs.Fractions.{le_trans, lt_le_trans, le_lt_trans}
 use Rattle.plan_exact.proofs.Laws.{linear, zero_mul, one_mul}
 use Rattle.plan_exact.proofs.Signs.{le_or_lt}

@@ -1,21 +1,71 @@
 -- The two products are apart by the turn.
-use Rattle.std.proofs.Common.{◌≤◌, ◌*◌, ◌^◌, ◌-ℤ◌, ◌*ℤ◌, ◌∙◌, ap, ap₂, arith}
-use Rattle.std.specs.Int.RustNames.{unsigned_abs}
+use Rattle.std.proofs.Common.{ℕ, ◌+◌, ◌*◌, ◌<◌, ◌≤◌, ◌^◌, ◌-ℤ◌, ◌*ℤ◌, ◌∙◌, ap, ap₂, subst, sym, arith}
 use Rattle.plan_exact.specs.Vectors.{Vector}
 use Rattle.plan_exact.proofs.Laws.{linear}
 use Rattle.plan_exact.proofs.Sizes.{product_at_most}
+use Rattle.plan_grid.specs.Bounds.{IsBounded}
 use Rattle.plan_grid.proofs.Turns.{turn_beside}
 use Rattle.plan_convex.proofs.triple.Triple.is_right.Goals as goal
+use Rattle.plan_convex.proofs.triple.Triple.is_right.Goals.{After-self}
+
+-- ---- how large the numbers are
+step_fits : (a b : ℕ) → a ≤ 2046 → b ≤ 2046 → a + b < 2 ^ 127
+step_fits a b h k = omega arith
+
+scaled_fits : (a w : ℕ) → a ≤ 2046 → w ≤ 2 ^ 100 → a * w < 2 ^ 127
+scaled_fits a w h k = omega (arith, product_at_most a w 2046 (2 ^ 100) h k)
+
+-- the way to the point, with the weight
+away : (x t a w : ℕ) → x ≤ 2046 * w → t ≤ a * w → a ≤ 2046 → w ≤ 2 ^ 100 → x + t ≤ 2 ^ 112
+away x t a w far scaled h k = omega (arith, product_at_most a w 2046 (2 ^ 100) h k)
+
+away_fits : (n : ℕ) → n ≤ 2 ^ 112 → n < 2 ^ 127
+away_fits n h = omega arith
+
+product_fits : (r a b u n : ℕ) → r ≤ a + b → a ≤ 2046 → b ≤ 2046 → u ≤ n → n ≤ 2 ^ 112 → r * u < 2 ^ 127
+product_fits r a b u n run h k up far =
+    let most : r ≤ 4092 = omega arith in
+    let long : u ≤ 2 ^ 112 = omega arith in
+    omega (arith, product_at_most r u 4092 (2 ^ 112) most long)
+
+bounded : (c : After-self) → IsBounded (2 ^ 100) (record { x = c.self.inside.x; y = c.self.inside.y; w = c.self.inside.w })
+bounded c = subst (IsBounded (2 ^ 100)) (sym c.self.view_is) c.requires.bounded
+
+pub minus-run-requires : goal.minus-run-requires
+minus-run-requires c = step_fits _ _ c.x_of.ensures.size c.x_of-2.ensures.size
+
+pub minus-rise-requires : goal.minus-rise-requires
+minus-rise-requires c = step_fits _ _ c.y_of.ensures.size c.y_of-2.ensures.size
+
+pub times-requires : goal.times-requires
+times-requires c =
+    let z = bounded (goal.at.times-requires c).After-self in
+    scaled_fits _ _ c.x_of-3.ensures.size z.weight_bounded
+
+pub minus-right-requires : goal.minus-right-requires
+minus-right-requires c =
+    let z = bounded (goal.at.minus-right-requires c).After-self in
+    away_fits _ (away _ _ _ _ z.x_bounded c.times.ensures.size c.x_of-3.ensures.size z.weight_bounded)
+
+pub times-requires-2 : goal.times-requires-2
+times-requires-2 c =
+    let z = bounded (goal.at.times-requires-2 c).After-self in
+    scaled_fits _ _ c.y_of-3.ensures.size z.weight_bounded
+
+pub minus-up-requires : goal.minus-up-requires
+minus-up-requires c =
+    let z = bounded (goal.at.minus-up-requires c).After-self in
+    away_fits _ (away _ _ _ _ z.y_bounded c.times-2.ensures.size c.y_of-3.ensures.size z.weight_bounded)
 
 pub times-requires-3 : goal.times-requires-3
 times-requires-3 c =
-    let y = ap (λ (v : Vector). unsigned_abs v.y) c.self.view_is in
-    let w = ap (λ (v : Vector). unsigned_abs v.w) c.self.view_is in
-    let run : unsigned_abs c.minus-run.result ≤ 4092 = omega (arith, c.minus-run.ensures.size) in
-    let scale = product_at_most (unsigned_abs c.y_of-3.result) (unsigned_abs c.self.inside.w) 2046 (2 ^ 100) c.y_of-3.ensures.size (omega (arith, w, c.requires.bounded.weight_bounded)) in
-    let tall : unsigned_abs c.self.inside.y ≤ 2046 * 2 ^ 100 = omega (arith, y, c.requires.bounded.y_bounded, c.requires.bounded.weight_bounded) in
-    let up : unsigned_abs c.minus-up.result ≤ 2 ^ 112 = omega (arith, scale, tall, c.minus-up.ensures.size, c.times-2.ensures.size) in
-    omega (arith, product_at_most _ _ _ _ run up)
+    let z = bounded (goal.at.times-requires-3 c).After-self in
+    product_fits _ _ _ _ _ c.minus-run.ensures.size c.x_of.ensures.size c.x_of-2.ensures.size c.minus-up.ensures.size (away _ _ _ _ z.y_bounded c.times-2.ensures.size c.y_of-3.ensures.size z.weight_bounded)
+
+pub times-requires-4 : goal.times-requires-4
+times-requires-4 c =
+    let z = bounded (goal.at.times-requires-4 c).After-self in
+    product_fits _ _ _ _ _ c.minus-rise.ensures.size c.y_of.ensures.size c.y_of-2.ensures.size c.minus-right.ensures.size (away _ _ _ _ z.x_bounded c.times.ensures.size c.x_of-3.ensures.size z.weight_bounded)
 
 pub returns : goal.returns
 returns c =
