@@ -7,11 +7,14 @@ use Rattle.plan_cross.specs.declared.segment.Segment.{Segment}
 use Rattle.plan_cross.specs.Segment.{segment_seen}
 use Rattle.plan_cross.specs.Ends.{ends}
 
+-- the segment that comes next, and those behind it
+pub next : (s : Segment) (segments : List Segment) (i : ℕ) → i < length segments → s ≡ get_or segments i s → drop i segments ≡ s ∷ drop (i + 1) segments
+next s segments i h e = rw add-one (drop-cons segments i s h ∙ ap (λ x. x ∷ drop (suc i) segments) (sym e))
+
 pub two_more : (found : List Vector) (s : Segment) (segments : List Segment) (i : ℕ) → i < length segments → s ≡ get_or segments i s
     → ((found ++ s.a ∷ []) ++ s.b ∷ []) ++ ends (map segment_seen (drop (i + 1) segments)) ≡ found ++ ends (map segment_seen (drop i segments))
 two_more found s segments i h e =
-    let at : drop i segments ≡ s ∷ drop (i + 1) segments = rw add-one (drop-cons segments i s h ∙ ap (λ x. x ∷ drop (suc i) segments) (sym e)) in
-    rw (append_assoc, append_assoc, at) refl
+    rw (append_assoc, append_assoc, next s segments i h e) refl
 
 pub all_two_more : (found : List Vector) (p q : Vector) → All IsPoint found → IsPoint p → IsPoint q → All IsPoint ((found ++ p ∷ []) ++ q ∷ [])
 all_two_more found p q h hp hq = All-append IsPoint (found ++ p ∷ []) (q ∷ []) (All-append IsPoint found (p ∷ []) h (one p hp)) (one q hq)

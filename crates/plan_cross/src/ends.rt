@@ -1,5 +1,6 @@
-ghost use Rattle.std.specs.Prelude.{◌≡◌, ◌↔◌, IsTrue, IfOk, All, AllPairs, Any, map, true};
+ghost use Rattle.std.specs.Prelude.{◌≡◌, ◌↔◌, IsTrue, IfOk, All, AllPairs, Any, [], ◌∷◌, ◌++◌, map, true};
 ghost use Rattle.plan_spec.specs.Vector.{Vector, IsPoint, Same};
+ghost use Rattle.plan_spec.specs.Segment.{HasPoints};
 ghost use Rattle.plan_spec.specs.Chain.{odd_end};
 ghost use Rattle.plan_cross.specs.Segment.{segment_seen};
 ghost use Rattle.plan_cross.specs.Ends.{ends, unpaired, Rises, AreOddEnds};
@@ -34,12 +35,21 @@ fn ends_of(alloc: Global, segments: &[Segment]) -> Result<Vec<Point>, AllocError
 {
     let mut found = Vec::with_capacity(alloc, 2 * segments.len())?;
     for segment in segments {
-        prove!(segment.a.w() > 0);
-        prove!(segment.b.w() > 0);
-        found.push(segment.a)?;
-        found.push(segment.b)?;
+        push_ends(&mut found, segment)?;
     }
     Ok(found)
+}
+
+// Puts the two ends of the segment behind the points.
+fn push_ends(found: &mut Vec<Point>, segment: &Segment) -> Result<(), AllocError>
+    ensures value { IfOk result (λ _. found.new.items ≡ (found.old.items ++ segment.now.a ∷ []) ++ segment.now.b ∷ []) }
+    ensures points { IfOk result (λ _. HasPoints (segment_seen segment.now)) }
+{
+    prove!(segment.a.w() > 0);
+    prove!(segment.b.w() > 0);
+    found.push(segment.a)?;
+    found.push(segment.b)?;
+    Ok(())
 }
 
 // What is left of a sorted list when pairs of one position are taken out.

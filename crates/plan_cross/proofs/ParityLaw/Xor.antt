@@ -1,6 +1,14 @@
 -- The laws of exclusive or: of its terms in any order, equal ones cancel.
-use Rattle.std.proofs.Common.{◌≡◌, Bool, true, false, ◌&&◌, refl, sym, ap, ◌∙◌}
+use Rattle.std.proofs.Common.{◌≡◌, Bool, true, false, not, ◌&&◌, refl, sym, ap, ◌∙◌}
+use Rattle.std.specs.Bool.{beq}
 use Rattle.plan_spec.specs.Parity.{xor}
+
+-- as code computes it
+pub xor_is : (x y : Bool) → xor x y ≡ not (beq x y)
+xor_is true true = refl
+xor_is true false = refl
+xor_is false true = refl
+xor_is false false = refl
 
 pub xor_false : (x : Bool) → xor x false ≡ x
 xor_false true = refl

@@ -9,15 +9,10 @@ use Rattle.plan_spec.specs.SimplePolygon.{InPolygon}
 use Rattle.plan_grid.specs.Spot.{spots_seen}
 use Rattle.plan_grid.proofs.Edges.{length-edges}
 use Rattle.plan_plane.proofs.Lists.{no_one}
+use Rattle.plan_cross.proofs.ParityLaw.Xor.{xor_is}
 use Rattle.plan_poly.specs.Edge.{segment_seen}
 use Rattle.plan_poly.proofs.EvenOdd.Walk.{Walked, walked_more, walked_all, has_one}
 use Rattle.plan_poly.proofs.polygon.Polygon.holds.Goals as goal
-
-xor_is : (x y : Bool) → xor x y ≡ not (beq x y)
-xor_is true true = refl
-xor_is true false = refl
-xor_is false true = refl
-xor_is false false = refl
 
 pub loop-i-init : goal.loop-i-init
 loop-i-init c = record { off = All-nil (λ s. ¬ (On s c.args.z.now)); count = refl }
