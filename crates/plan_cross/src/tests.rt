@@ -1,9 +1,9 @@
-ghost use Rattle.std.specs.Prelude.{◌<◌, ◌^◌, length, IfOk, ◌≡◌};
 ghost use Rattle.plan_grid.specs.Spot.{IsWithin};
 
 use crate::{Chain, NoMemory, Segment, closed, first_unclosed, over, parity};
 use plan_grid::{MOST_COORDINATE, Point, Spot};
-use std::alloc::Global;
+use std::alloc::{AllocError, Global};
+use std::process::Abort;
 
 fn spot(x: i8, y: i8) -> Spot
     ensures { IsWithin MOST_COORDINATE result }
@@ -21,115 +21,166 @@ fn segment(ax: i8, ay: i8, bx: i8, by: i8) -> Segment {
     }
 }
 
-// The sides of a box, each from its lesser end.
-fn sides(low: i8, right: i8, top: i8) -> [Segment; 4] {
-    [
-        segment(low, low, right, low),
-        segment(right, low, right, top),
-        segment(low, top, right, top),
-        segment(low, low, low, top),
-    ]
+// The segments between these ends, four coordinates each.
+fn segments(alloc: Global, ends: &[i8]) -> Result<Vec<Segment>, AllocError> {
+    let mut segments = Vec::new(alloc);
+    for k in 0..ends.len() / 4 {
+        let (ax, ay) = (ends[4 * k], ends[4 * k + 1]);
+        segments.push(segment(ax, ay, ends[4 * k + 2], ends[4 * k + 3]))?;
+    }
+    Ok(segments)
 }
 
-fn chain(alloc: Global, segments: &[Segment]) -> Result<Chain, NoMemory>
-    ensures { IfOk result (λ chain. length chain ≡ length segments.now) }
-{
-    let segments = Vec::from_slice(alloc, segments)?;
-    Ok(Chain { segments })
+// The sides of a box, each from its lesser end: the bottom, the right, the top and the left.
+fn sides(alloc: Global, low: i8, right: i8, top: i8) -> Result<Vec<Segment>, AllocError> {
+    let mut sides = segments(alloc, &[low, low, right, low, right, low, right, top])?;
+    sides.push(segment(low, top, right, top))?;
+    sides.push(segment(low, low, low, top))?;
+    Ok(sides)
+}
+
+// The segment must stand over each of these points, or over none.
+fn stands(rt: &impl Abort, segment: &Segment, points: &[i8], want: bool) {
+    for k in 0..points.len() / 2 {
+        let z = spot(points[2 * k], points[2 * k + 1]);
+        assert!(rt; over(segment, z) == want, "point {k}");
+    }
+}
+
+// The segments over each of these points must be odd in number, or over none.
+fn odd(rt: &impl Abort, segments: &[Segment], points: &[i8], want: bool) {
+    for k in 0..points.len() / 2 {
+        let z = spot(points[2 * k], points[2 * k + 1]);
+        assert!(rt; parity(segments, z) == want, "point {k}");
+    }
+}
+
+// The chain of the segments must be closed, or not.
+fn closes(
+    rt: &impl Abort,
+    alloc: Global,
+    segments: Vec<Segment>,
+    want: bool,
+) -> Result<(), NoMemory> {
+    let found = closed(alloc, &Chain { segments })?;
+    assert!(rt; found == want);
+    Ok(())
+}
+
+// The sides of a box of which the right one ends at one point, and the top one at another.
+fn sides_to(alloc: Global, right: Point, top: Point) -> Result<Vec<Segment>, AllocError> {
+    let mut sides = segments(alloc, &[0, 0, 8, 0, 0, 0, 0, 19])?;
+    sides.push(Segment {
+        a: Point::of(spot(8, 0)),
+        b: right,
+    })?;
+    sides.push(Segment {
+        a: Point::of(spot(0, 19)),
+        b: top,
+    })?;
+    Ok(sides)
+}
+
+// Those of the list with these numbers, in this order.
+fn chosen(
+    rt: &impl Abort,
+    alloc: Global,
+    list: &[Segment],
+    numbers: &[usize],
+) -> Result<Vec<Segment>, AllocError> {
+    let mut segments = Vec::new(alloc);
+    for n in numbers {
+        assert!(rt; *n < list.len());
+        segments.push(list[*n])?;
+    }
+    Ok(segments)
+}
+
+// The first with an odd end of those that are chosen.
+fn first_odd(
+    rt: &impl Abort,
+    alloc: Global,
+    list: &[Segment],
+    numbers: &[usize],
+) -> Result<Option<u32>, NoMemory> {
+    let segments = chosen(rt, alloc, list, numbers)?;
+    assert!(rt; segments.len() < 100);
+    first_unclosed(alloc, &Chain { segments })
 }
 
 #[test]
 fn stands_over_from_its_left_end_to_before_its_right_end(rt: HostRuntime) {
+    let under = [0, 1, 3, -9];
+    let beside = [4, 1, 2, 2, 2, 3, -1, 1];
     let flat = segment(0, 2, 4, 2);
+    stands(&rt, &flat, &under, true);
+    stands(&rt, &flat, &beside, false);
     let turned = segment(4, 2, 0, 2);
-    for (x, y, want) in [
-        (0, 1, true),
-        (4, 1, false),
-        (2, 2, false),
-        (2, 3, false),
-        (3, -9, true),
-        (-1, 1, false),
-    ] {
-        assert_eq!(rt; over(&flat, spot(x, y)), want, "at {x} {y}");
-        assert_eq!(rt; over(&turned, spot(x, y)), want, "turned, at {x} {y}");
-    }
-    assert!(rt; !over(&segment(2, 0, 2, 9), spot(2, -1)));
+    stands(&rt, &turned, &under, true);
+    stands(&rt, &turned, &beside, false);
+    stands(&rt, &segment(2, 0, 2, 9), &[2, -1], false);
 }
 
 #[test]
-fn is_odd_inside_a_loop(rt: HostRuntime) {
-    let outer = sides(0, 8, 19);
-    for (x, y, want) in [
-        (2, 2, true),
-        (15, 2, false),
-        (2, 19, false),
-        (0, 1, true),
-        (8, 1, false),
-    ] {
-        assert_eq!(rt; parity(&outer, spot(x, y)), want, "at {x} {y}");
-    }
+fn is_odd_inside_a_loop(rt: HostRuntime) -> Result<(), NoMemory> {
+    let outer = sides(rt.alloc(), 0, 8, 19)?;
+    odd(&rt, &outer, &[2, 2, 0, 1], true);
+    odd(&rt, &outer, &[15, 2, 2, 19, 8, 1], false);
+    odd(&rt, &[], &[2, 2], false);
+    Ok(())
 }
 
 #[test]
 fn is_even_inside_two_loops(rt: HostRuntime) -> Result<(), NoMemory> {
-    let mut both = Vec::from_slice(rt.alloc(), &sides(0, 8, 19))?;
-    both.extend_from_slice(&sides(2, 6, 9))?;
-    assert!(rt; !parity(&both, spot(4, 4)));
-    assert!(rt; parity(&both, spot(1, 4)));
-    assert!(rt; closed(rt.alloc(), &Chain { segments: both })?);
-    Ok(())
+    let alloc = rt.alloc();
+    let mut both = sides(alloc, 0, 8, 19)?;
+    let inner = sides(alloc, 2, 6, 9)?;
+    both.extend_from_slice(&inner)?;
+    odd(&rt, &both, &[4, 4], false);
+    odd(&rt, &both, &[1, 4], true);
+    closes(&rt, alloc, both, true)
 }
 
 #[test]
 fn is_closed_where_each_end_stands_twice(rt: HostRuntime) -> Result<(), NoMemory> {
     let alloc = rt.alloc();
-    let outer = sides(0, 8, 19);
-    assert!(rt; closed(alloc, &chain(alloc, &outer)?)?);
-    assert!(rt; !closed(alloc, &chain(alloc, &outer[..1])?)?);
-    assert!(rt; closed(alloc, &chain(alloc, &[])?)?);
-    assert!(rt; !parity(&[], spot(2, 2)));
-    Ok(())
+    closes(&rt, alloc, sides(alloc, 0, 8, 19)?, true)?;
+    closes(&rt, alloc, segments(alloc, &[0, 0, 8, 0])?, false)?;
+    closes(&rt, alloc, Vec::new(alloc), true)
 }
 
 #[test]
 fn counts_ends_by_position(rt: HostRuntime) -> Result<(), NoMemory> {
     let alloc = rt.alloc();
+    let corner = Point::of(spot(8, 19));
     let whole = Point::new(24, 57, 3).expect(&rt, "(8, 19)");
     let half = Point::new(17, 1, 2).expect(&rt, "(17/2, 1/2)");
-    let mut segments = sides(0, 8, 19);
-    segments[1].b = whole;
-    assert!(rt; closed(alloc, &chain(alloc, &segments)?)?);
-    segments[1].b = half;
-    assert!(rt; !closed(alloc, &chain(alloc, &segments)?)?);
-    segments[2].b = half;
-    assert!(rt; closed(alloc, &chain(alloc, &segments)?)?);
-    Ok(())
-}
-
-// The number of the first segment with an odd end.
-fn first_odd(alloc: Global, segments: &[Segment]) -> Result<Option<u32>, NoMemory>
-    requires { length segments.now < 2 ^ 32 }
-{
-    let chain = chain(alloc, segments)?;
-    first_unclosed(alloc, &chain)
+    closes(&rt, alloc, sides_to(alloc, whole, corner)?, true)?;
+    closes(&rt, alloc, sides_to(alloc, half, corner)?, false)?;
+    closes(&rt, alloc, sides_to(alloc, half, half)?, true)
 }
 
 #[test]
 fn names_the_first_segment_with_an_odd_end(rt: HostRuntime) -> Result<(), NoMemory> {
     let alloc = rt.alloc();
-    let [bottom, right, top, left] = sides(0, 8, 19);
-    assert_eq!(rt; first_odd(alloc, &[bottom, right, top, left])?, None);
-    assert_eq!(rt; first_odd(alloc, &[])?, None);
-    assert_eq!(rt; first_odd(alloc, &[bottom])?, Some(0));
+    let list = sides(alloc, 0, 8, 19)?;
+    assert!(rt; first_odd(&rt, alloc, &list, &[0, 1, 2, 3])? == None);
+    assert!(rt; first_odd(&rt, alloc, &list, &[])? == None);
+    assert!(rt; first_odd(&rt, alloc, &list, &[0])? == Some(0));
     // without the top the corners (8, 19) and (0, 19) are odd, and the second segment has the first of them
-    assert_eq!(rt; first_odd(alloc, &[bottom, right, left])?, Some(1));
-    // a loop, and a segment behind it
-    let beside = segment(20, 0, 21, 0);
-    assert_eq!(rt;
-        first_odd(alloc, &[left, top, right, bottom, beside])?,
-        Some(4)
-    );
-    assert_eq!(rt; first_odd(alloc, &[bottom, bottom])?, None);
-    assert_eq!(rt; first_odd(alloc, &[bottom, bottom, bottom])?, Some(0));
+    assert!(rt; first_odd(&rt, alloc, &list, &[0, 1, 3])? == Some(1));
+    Ok(())
+}
+
+#[test]
+fn names_the_first_that_stands_an_odd_number_of_times(rt: HostRuntime) -> Result<(), NoMemory> {
+    let alloc = rt.alloc();
+    let loop_and_one = [
+        0, 0, 8, 0, 8, 0, 8, 19, 0, 19, 8, 19, 0, 0, 0, 19, 20, 0, 21, 0,
+    ];
+    let list = segments(alloc, &loop_and_one)?;
+    assert!(rt; first_odd(&rt, alloc, &list, &[3, 2, 1, 0, 4])? == Some(4));
+    assert!(rt; first_odd(&rt, alloc, &list, &[0, 0])? == None);
+    assert!(rt; first_odd(&rt, alloc, &list, &[0, 0, 0])? == Some(0));
     Ok(())
 }
