@@ -22,6 +22,68 @@ fn pop<T: Drop>(editor: &Editor<T>, readers: &mut Vec<Reader<T>>) -> Result<Read
     }
 }
 
+// Publishes one entry more.
+fn publish<R: Wait>(
+    rt: &R,
+    alloc: Global,
+    editor: &mut Editor<char>,
+    entry: char,
+) -> Result<(), Fail>
+    requires tied { IsTied editor.old }
+    requires room { length editor.old.list ≤ MOST_PUBLISHED }
+    ensures tied { IsTied editor.new }
+    ensures shelf { editor.new.shelf ≡ editor.old.shelf }
+    ensures list { length editor.new.list ≤ length editor.old.list + 1 }
+{
+    editor.publish(rt, Arc::new(alloc, entry)?)?;
+    Ok(())
+}
+
+// The reader looks, and finds this entry at this place.
+fn finds<R: Abort>(rt: &R, reader: &mut Reader<char>, entry: char, place: u32)
+    ensures { reader.new.shelf ≡ reader.old.shelf }
+{
+    assert_eq!(rt; *reader.look(), entry);
+    is_at(rt, reader, place);
+}
+
+fn is_at<R: Abort>(rt: &R, reader: &Reader<char>, place: u32) {
+    assert_eq!(rt; reader.place(), place);
+}
+
+// The reader learns what the editor tells, which is this entry at this place.
+fn learns<R: Abort>(
+    rt: &R,
+    editor: &mut Editor<char>,
+    reader: &mut Reader<char>,
+    entry: char,
+    place: u32,
+) -> Result<(), Fail>
+    requires { reader.old.shelf ≡ editor.old.shelf }
+    ensures editor { editor.new ≡ editor.old }
+    ensures reader { reader.new.shelf ≡ reader.old.shelf }
+{
+    let told = editor.told()?;
+    assert_eq!(rt; (told.place, *told.entry), (place, entry));
+    assert!(rt; reader.learn(told));
+    Ok(())
+}
+
+// The reader settles with what the editor tells.
+fn settles<R: Abort>(
+    rt: &R,
+    editor: &mut Editor<char>,
+    reader: &mut Reader<char>,
+) -> Result<(), Fail>
+    requires { reader.old.shelf ≡ editor.old.shelf }
+    ensures editor { editor.new ≡ editor.old }
+    ensures reader { reader.new.shelf ≡ reader.old.shelf }
+{
+    let told = editor.told()?;
+    assert!(rt; reader.settle(told));
+    Ok(())
+}
+
 #[test]
 fn a_reader_learns_looks_and_settles(rt: HostRuntime) -> Result<(), Fail> {
     let alloc = rt.alloc();
@@ -42,15 +104,25 @@ fn learns_looks_and_settles<R: Wait + Abort>(
     requires readers { All (λ r. r.shelf ≡ editor.old.shelf) readers.old.items }
 {
     let mut reader = pop(editor, readers)?;
-    assert_eq!(rt; *reader.look(), 'A');
-    editor.publish(rt, Arc::new(alloc, 'B')?)?;
-    let first = editor.told()?;
-    let second = editor.told()?;
-    assert_eq!(rt; (first.place, *first.entry), (1, 'B'));
-    assert!(rt; reader.learn(first));
-    assert_eq!(rt; *reader.look(), 'B');
-    assert!(rt; reader.settle(second));
-    assert_eq!(rt; reader.place(), 1);
+    learns_and_settles(rt, alloc, editor, &mut reader)
+}
+
+fn learns_and_settles<R: Wait + Abort>(
+    rt: &R,
+    alloc: Global,
+    editor: &mut Editor<char>,
+    reader: &mut Reader<char>,
+) -> Result<(), Fail>
+    requires tied { IsTied editor.old }
+    requires room { length editor.old.list ≤ 1 }
+    requires reader { reader.old.shelf ≡ editor.old.shelf }
+{
+    finds(rt, reader, 'A', 0);
+    publish(rt, alloc, editor, 'B')?;
+    learns(rt, editor, reader, 'B', 1)?;
+    finds(rt, reader, 'B', 1);
+    settles(rt, editor, reader)?;
+    is_at(rt, reader, 1);
     Ok(())
 }
 
@@ -75,17 +147,33 @@ fn settles_or_knows_more<R: Wait + Abort>(
 {
     let mut one = pop(editor, readers)?;
     let mut two = pop(editor, readers)?;
-    assert_eq!(rt; *one.look(), 'A');
+    finds(rt, &mut one, 'A', 0);
     let early = editor.told()?;
-    editor.publish(rt, Arc::new(alloc, 'B')?)?;
-    let first = editor.told()?;
-    let second = editor.told()?;
-    assert_eq!(rt; *two.look(), 'B');
-    assert!(rt; one.settle(first));
-    assert!(rt; two.settle(second));
-    assert_eq!(rt; (one.place(), two.place()), (1, 1));
+    both_settle(rt, alloc, editor, &mut one, &mut two)?;
     assert!(rt; !two.settle(early));
-    assert_eq!(rt; (two.place(), *two.look()), (1, 'B'));
+    is_at(rt, &two, 1);
+    finds(rt, &mut two, 'B', 1);
+    Ok(())
+}
+
+fn both_settle<R: Wait + Abort>(
+    rt: &R,
+    alloc: Global,
+    editor: &mut Editor<char>,
+    one: &mut Reader<char>,
+    two: &mut Reader<char>,
+) -> Result<(), Fail>
+    requires tied { IsTied editor.old }
+    requires room { length editor.old.list ≤ 1 }
+    requires readers { (one.old.shelf ≡ editor.old.shelf) × (two.old.shelf ≡ editor.old.shelf) }
+    ensures { two.new.shelf ≡ two.old.shelf }
+{
+    publish(rt, alloc, editor, 'B')?;
+    finds(rt, two, 'B', 1);
+    settles(rt, editor, one)?;
+    settles(rt, editor, two)?;
+    is_at(rt, one, 1);
+    is_at(rt, two, 1);
     Ok(())
 }
 
@@ -109,14 +197,29 @@ fn looks_between<R: Wait + Abort>(
     requires readers { All (λ r. r.shelf ≡ editor.old.shelf) readers.old.items }
 {
     let mut reader = pop(editor, readers)?;
-    editor.publish(rt, Arc::new(alloc, 'B')?)?;
+    publish(rt, alloc, editor, 'B')?;
     let told = editor.told()?;
-    assert_eq!(rt; (*reader.look(), reader.place()), ('B', 1));
-    editor.publish(rt, Arc::new(alloc, 'C')?)?;
-    assert_eq!(rt; reader.place(), 1);
-    assert_eq!(rt; (*reader.look(), reader.place()), ('C', 2));
+    finds_the_next(rt, alloc, editor, &mut reader)?;
     assert!(rt; reader.learn(told));
-    assert_eq!(rt; (*reader.look(), reader.place()), ('C', 2));
+    finds(rt, &mut reader, 'C', 2);
+    Ok(())
+}
+
+// It looks before and after the second publish, and keeps its entry until the second look.
+fn finds_the_next<R: Wait + Abort>(
+    rt: &R,
+    alloc: Global,
+    editor: &mut Editor<char>,
+    reader: &mut Reader<char>,
+) -> Result<(), Fail>
+    requires tied { IsTied editor.old }
+    requires room { length editor.old.list ≤ 2 }
+    ensures { reader.new.shelf ≡ reader.old.shelf }
+{
+    finds(rt, reader, 'B', 1);
+    publish(rt, alloc, editor, 'C')?;
+    is_at(rt, reader, 1);
+    finds(rt, reader, 'C', 2);
     Ok(())
 }
 
@@ -127,9 +230,18 @@ fn a_reader_keeps_its_entry_when_the_editor_is_gone(rt: HostRuntime) -> Result<(
     let answer = one_looks(&rt, alloc, &mut editor, &mut readers);
     editor.finish(&rt);
     let mut late = answer?;
+    both_keep(&rt, &mut late, &mut readers)
+}
+
+// One has looked after the publish, and the other never.
+fn both_keep<R: Abort>(
+    rt: &R,
+    late: &mut Reader<char>,
+    readers: &mut Vec<Reader<char>>,
+) -> Result<(), Fail> {
     let mut early = readers.pop().ok_or("a reader")?;
-    assert_eq!(&rt; (*late.look(), late.place()), ('B', 1));
-    assert_eq!(&rt; (*early.look(), early.place()), ('A', 0));
+    finds(rt, late, 'B', 1);
+    finds(rt, &mut early, 'A', 0);
     Ok(())
 }
 
@@ -144,8 +256,8 @@ fn one_looks<R: Wait + Abort>(
     requires room { length editor.old.list ≤ 1 }
 {
     let mut reader = readers.pop().ok_or("a reader")?;
-    editor.publish(rt, Arc::new(alloc, 'B')?)?;
-    assert_eq!(rt; *reader.look(), 'B');
+    publish(rt, alloc, editor, 'B')?;
+    finds(rt, &mut reader, 'B', 1);
     Ok(reader)
 }
 
