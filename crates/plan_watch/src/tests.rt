@@ -65,38 +65,59 @@ fn tell(watchers: &mut Vec<Box<dyn Watcher>>, version: u32, obstacles: u32)
     tell_all(watchers, version, obstacles);
 }
 
+// A watcher for each of these numbers of calls.
+fn done_after_each(alloc: Global, calls: &[u32]) -> Result<Vec<Box<dyn Watcher>>, Fail>
+    ensures { IfOk result (λ v. All (λ w. 4 ≤ room w + 1) v.items) }
+{
+    let mut watchers = Vec::new(alloc);
+    for k in 0..calls.len() {
+        watchers.push(done_after(alloc, calls[k])?)?;
+    }
+    Ok(watchers)
+}
+
+// Tells the pair of one version, after which so many are left.
+fn leaves<R: Abort>(
+    rt: &R,
+    watchers: &mut Vec<Box<dyn Watcher>>,
+    version: u32,
+    obstacles: u32,
+    left: usize,
+)
+    requires version { version ≤ 3 }
+    requires room { All (λ w. 4 ≤ room w + version) watchers.old.items }
+    ensures { All (λ w. 4 ≤ room w + (version + 1)) watchers.new.items }
+{
+    tell(watchers, version, obstacles);
+    assert_eq!(rt; watchers.len(), left);
+}
+
+// What the first watcher keeps.
+fn first_keeps<R: Abort>(rt: &R, watchers: &[Box<dyn Watcher>], pairs: &[(u32, u32)]) {
+    assert!(rt; !watchers.is_empty());
+    assert_eq!(rt; watchers[0].kept(), pairs);
+}
+
 #[test]
 fn a_watcher_that_is_done_is_let_go_and_a_tally_hears_all(rt: HostRuntime) -> Result<(), Fail> {
     let alloc = rt.alloc();
     let mut watchers = Vec::new(alloc);
     watchers.push(done_after(alloc, 1)?)?;
     watchers.push(tally(alloc)?)?;
-    tell(&mut watchers, 1, 1);
-    assert_eq!(&rt; watchers.len(), 2);
-    assert_eq!(&rt; watchers[0].kept(), [(1, 1)].as_slice());
-    tell(&mut watchers, 2, 0);
-    assert_eq!(&rt; watchers.len(), 1);
-    tell(&mut watchers, 3, 1);
-    assert_eq!(&rt; watchers.len(), 1);
-    assert_eq!(&rt; watchers[0].kept(), [(1, 1), (2, 0), (3, 1)].as_slice());
+    leaves(&rt, &mut watchers, 1, 1, 2);
+    first_keeps(&rt, &watchers, &[(1, 1)]);
+    leaves(&rt, &mut watchers, 2, 0, 1);
+    leaves(&rt, &mut watchers, 3, 1, 1);
+    first_keeps(&rt, &watchers, &[(1, 1), (2, 0), (3, 1)]);
     Ok(())
 }
 
 #[test]
 fn those_that_are_left_keep_their_order(rt: HostRuntime) -> Result<(), Fail> {
-    let alloc = rt.alloc();
-    let mut watchers = Vec::new(alloc);
-    watchers.push(done_after(alloc, 0)?)?;
-    watchers.push(done_after(alloc, 2)?)?;
-    watchers.push(done_after(alloc, 0)?)?;
-    watchers.push(done_after(alloc, 0)?)?;
-    watchers.push(done_after(alloc, 1)?)?;
-    tell(&mut watchers, 1, 7);
-    assert_eq!(&rt; watchers.len(), 2);
-    tell(&mut watchers, 2, 8);
-    assert_eq!(&rt; watchers.len(), 1);
-    tell(&mut watchers, 3, 9);
-    assert!(&rt; watchers.is_empty());
+    let mut watchers = done_after_each(rt.alloc(), &[0, 2, 0, 0, 1])?;
+    leaves(&rt, &mut watchers, 1, 7, 2);
+    leaves(&rt, &mut watchers, 2, 8, 1);
+    leaves(&rt, &mut watchers, 3, 9, 0);
     Ok(())
 }
 
