@@ -6,6 +6,7 @@ pub mod Places
 pub mod Kept
 pub mod Points
 pub mod Six
+pub mod Four
 pub mod Tokens
 pub mod Lengths
 pub mod Puts

@@ -1,12 +1,13 @@
 // Whole numbers.
 ghost use Rattle.std.specs.Prelude.{◌≤◌, ◌≤ℤ◌, ℤ, pos, neg_ℤ, IfOk};
 ghost use Rattle.serde_json.specs.View.{view};
+ghost use Rattle.plan_wire.specs.Documents.{numbers};
 ghost use Rattle.plan_wire.specs.Place.{path_of};
 ghost use Rattle.plan_wire.specs.Reading as reading;
 ghost use Rattle.plan_wire.specs.Seen.{ReadsAs};
 
 use super::fault::WireFault;
-use super::forms::Form;
+use super::forms::{Form, elements};
 use super::place::Place;
 use plan_grid::MOST_COORDINATE;
 use serde_json::Value;
@@ -73,6 +74,44 @@ pub(crate) fn number_at(
     let limit = i64::from(limit);
     let z = whole(alloc, &Place::Element(&*place, i), v, -limit, limit)?;
     Ok(z as i32)
+}
+
+// Two of them, from -limit to limit.
+pub(crate) fn two_numbers(
+    alloc: Global,
+    place: &Place,
+    v: &Value,
+    limit: u32,
+) -> Result<[i32; 2], WireFault>
+    requires { limit ≤ MOST_COORDINATE }
+    ensures { ReadsAs (λ z. z) (numbers 2 limit (path_of place.now) (view v.now)) result }
+{
+    let [a, b] = elements(alloc, place, v)? else {
+        return Err(WireFault::form(alloc, place));
+    };
+    let a = number_at(alloc, place, 0, a, limit)?;
+    let b = number_at(alloc, place, 1, b, limit)?;
+    Ok([a, b])
+}
+
+// Four of them.
+pub(crate) fn four_numbers(
+    alloc: Global,
+    place: &Place,
+    v: &Value,
+    limit: u32,
+) -> Result<[i32; 4], WireFault>
+    requires { limit ≤ MOST_COORDINATE }
+    ensures { ReadsAs (λ z. z) (numbers 4 limit (path_of place.now) (view v.now)) result }
+{
+    let [a, b, c, d] = elements(alloc, place, v)? else {
+        return Err(WireFault::form(alloc, place));
+    };
+    let a = number_at(alloc, place, 0, a, limit)?;
+    let b = number_at(alloc, place, 1, b, limit)?;
+    let c = number_at(alloc, place, 2, c, limit)?;
+    let d = number_at(alloc, place, 3, d, limit)?;
+    Ok([a, b, c, d])
 }
 
 /// The number of the format, which is 1.

@@ -3,8 +3,8 @@ ghost use Rattle.plan_wire.specs.Documents as definition;
 ghost use Rattle.plan_wire.specs.Seen.{query_seen};
 
 use super::fault::WireFault;
-use super::forms::{Between, Form, elements};
-use super::numbers::number_at;
+use super::forms::{Between, Form};
+use super::numbers::four_numbers;
 use super::place::Place;
 use plan_cross::Query;
 use plan_grid::{MOST_COORDINATE, Spot};
@@ -25,13 +25,7 @@ impl Form for QueryForm {
 
     #[tactic(auto, unfolding(crate::specs::Documents::query_of))]
     fn read(alloc: Global, place: &Place, v: &Value) -> Result<Query, WireFault> {
-        let [x1, y1, x2, y2] = elements(alloc, place, v)? else {
-            return Err(WireFault::form(alloc, place));
-        };
-        let x1 = number_at(alloc, place, 0, x1, MOST_COORDINATE)?;
-        let y1 = number_at(alloc, place, 1, y1, MOST_COORDINATE)?;
-        let x2 = number_at(alloc, place, 2, x2, MOST_COORDINATE)?;
-        let y2 = number_at(alloc, place, 3, y2, MOST_COORDINATE)?;
+        let [x1, y1, x2, y2] = four_numbers(alloc, place, v, MOST_COORDINATE)?;
         Ok(Query {
             start: Spot { x: x1, y: y1 },
             goal: Spot { x: x2, y: y2 },

@@ -7,8 +7,8 @@ ghost use Rattle.plan_grid.specs.Frame.{frame_seen};
 ghost use Rattle.plan_wire.specs.Documents as definition;
 
 use super::fault::WireFault;
-use super::forms::{Between, Form, elements};
-use super::numbers::number_at;
+use super::forms::{Between, Form};
+use super::numbers::{four_numbers, two_numbers};
 use super::place::Place;
 use plan_grid::{Frame, MOST_CORNER, Spot};
 use serde_json::Value;
@@ -28,11 +28,7 @@ impl Form for SpotForm {
 
     #[tactic(auto, unfolding(crate::specs::Documents::spot_of))]
     fn read(alloc: Global, place: &Place, v: &Value) -> Result<Spot, WireFault> {
-        let [x, y] = elements(alloc, place, v)? else {
-            return Err(WireFault::form(alloc, place));
-        };
-        let x = number_at(alloc, place, 0, x, MOST_CORNER)?;
-        let y = number_at(alloc, place, 1, y, MOST_CORNER)?;
+        let [x, y] = two_numbers(alloc, place, v, MOST_CORNER)?;
         Ok(Spot { x, y })
     }
 }
@@ -64,13 +60,7 @@ impl Form for FrameForm {
 
     #[tactic(auto, unfolding(crate::specs::Documents::frame_of))]
     fn read(alloc: Global, place: &Place, v: &Value) -> Result<Frame, WireFault> {
-        let [x1, y1, x2, y2] = elements(alloc, place, v)? else {
-            return Err(WireFault::form(alloc, place));
-        };
-        let x1 = number_at(alloc, place, 0, x1, MOST_CORNER)?;
-        let y1 = number_at(alloc, place, 1, y1, MOST_CORNER)?;
-        let x2 = number_at(alloc, place, 2, x2, MOST_CORNER)?;
-        let y2 = number_at(alloc, place, 3, y2, MOST_CORNER)?;
+        let [x1, y1, x2, y2] = four_numbers(alloc, place, v, MOST_CORNER)?;
         let frame = Frame {
             low: Spot { x: x1, y: y1 },
             high: Spot { x: x2, y: y2 },

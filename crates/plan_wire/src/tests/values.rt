@@ -2,11 +2,12 @@
 use crate::*;
 use plan_cross::{Certificate, Query};
 use plan_grid::{Point, Spot};
-use std::alloc::AllocError;
+use std::alloc::{AllocError, Global};
+use std::process::Abort;
 use std::test::Fail;
 
 const SCENE: &str =
-    "{\"other\":[],\"format\":1,\"frame\":[-3,-2,20,30],\"robot\":[[0,0],[1,0],[0,-1],[-1,0]],\"obstacles\":[{\"id\":65535,\"shape\":[[9,-5],[11,-5],[9,1023]]},{\"id\":7,\"shape\":[[1,2],[3,4],[5,6]]}]";
+    r#""other":[],"format":1,"frame":[-3,-2,20,30],"robot":[[0,0],[1,0],[0,-1],[-1,0]],"obstacles":[{"id":65535,"shape":[[9,-5],[11,-5],[9,1023]]},{"id":7,"shape":[[1,2],[3,4],[5,6]]}]"#;
 
 fn push_spot(all: &mut Vec<i64>, spot: Spot) -> Result<(), AllocError> {
     all.push(i64::from(spot.x))?;
@@ -89,62 +90,87 @@ fn push_task(all: &mut Vec<i64>, task: &Task) -> Result<(), AllocError> {
     Ok(())
 }
 
-fn push_scene(all: &mut Vec<i64>, document: &Document) -> Result<(), AllocError> {
+fn push_frame_and_robot(all: &mut Vec<i64>, document: &Document) -> Result<(), AllocError> {
     push_spot(all, document.frame.low)?;
     push_spot(all, document.frame.high)?;
     for spot in &document.robot {
         push_spot(all, *spot)?;
     }
+    Ok(())
+}
+
+fn push_obstacles(all: &mut Vec<i64>, document: &Document) -> Result<(), AllocError> {
     for shape in &document.obstacles {
         push_shape(all, shape)?;
     }
     Ok(())
 }
 
+// The document of the scene and these members.
+fn read(alloc: Global, want: Want, members: &str) -> Result<Document, Fail> {
+    let text = format!(in alloc; "{{{SCENE},{members}}}")?;
+    Ok(read_document(alloc, text.as_bytes(), want)?)
+}
+
+fn expect(rt: &impl Abort, all: &[i64], wanted: &[i64], row: &str) {
+    assert_eq!(rt; all, wanted, "{row}");
+}
+
+const FRAME_AND_ROBOT: &[i64] = &[-3, -2, 20, 30, 0, 0, 1, 0, 0, -1, -1, 0];
+
+const OBSTACLES: &[i64] = &[65_535, 9, -5, 11, -5, 9, 1023, 7, 1, 2, 3, 4, 5, 6];
+
 #[test]
 fn the_scene_is_read_member_by_member(rt: HostRuntime) -> Result<(), Fail> {
-    let text = format!(in rt.alloc(); "{SCENE},\"queries\":[]}}")?;
-    let document = read_document(rt.alloc(), text.as_bytes(), Want::Plan)?;
+    let document = read(rt.alloc(), Want::Plan, "\"queries\":[]")?;
     let mut all = Vec::new(rt.alloc());
-    push_scene(&mut all, &document)?;
-    let wanted = [
-        -3, -2, 20, 30, 0, 0, 1, 0, 0, -1, -1, 0, 65_535, 9, -5, 11, -5, 9, 1023, 7, 1, 2, 3, 4, 5,
-        6,
-    ];
-    assert_eq!(rt; all.as_slice(), wanted.as_slice());
+    push_frame_and_robot(&mut all, &document)?;
+    expect(&rt, all.as_slice(), FRAME_AND_ROBOT, "frame and robot");
+    let mut all = Vec::new(rt.alloc());
+    push_obstacles(&mut all, &document)?;
+    expect(&rt, all.as_slice(), OBSTACLES, "obstacles");
     Ok(())
 }
 
+// The numbers of what is asked.
+fn asked(alloc: Global, want: Want, members: &str) -> Result<Vec<i64>, Fail> {
+    let document = read(alloc, want, members)?;
+    let mut all = Vec::new(alloc);
+    push_task(&mut all, &document.task)?;
+    Ok(all)
+}
+
+const ROUNDS: &str =
+    r#""rounds":[{"edits":[{"remove":7},{"add":8,"shape":[[1,1],[2,1],[1,2]]}],"lanes":[[],[[2,3,5,6]]]},{"edits":[],"lanes":[[[9,9,9,9]]]}]"#;
+
+const ASKED: [(Want, &str, &[i64]); 4] = [
+    (
+        Want::Plan,
+        r#""queries":[[2,3,5,-2046],[1,1,1,1]]"#,
+        &[2, 3, 5, -2046, 1, 1, 1, 1],
+    ),
+    (
+        Want::Session,
+        ROUNDS,
+        &[-7, 8, 1, 1, 2, 1, 1, 2, 2, 3, 5, 6, 9, 9, 9, 9],
+    ),
+    (
+        Want::Check,
+        r#""query":[2,3,5,6],"certificate":{"path":[[2,4,6],[-9,0,3]]}"#,
+        &[2, 3, 5, 6, 1, 2, 3, -3, 0, 1],
+    ),
+    (
+        Want::Check,
+        r#""query":[2,3,5,6],"certificate":{"chain":[[5,5,1,2,4,4]]}"#,
+        &[2, 3, 5, 6, 5, 5, 1, 1, 2, 2],
+    ),
+];
+
 #[test]
 fn what_is_asked_is_read_and_points_in_lowest_terms(rt: HostRuntime) -> Result<(), Fail> {
-    let cases: [(Want, &str, &[i64]); 4] = [
-        (
-            Want::Plan,
-            "\"queries\":[[2,3,5,-2046],[1,1,1,1]]}",
-            &[2, 3, 5, -2046, 1, 1, 1, 1],
-        ),
-        (
-            Want::Session,
-            "\"rounds\":[{\"edits\":[{\"remove\":7},{\"add\":8,\"shape\":[[1,1],[2,1],[1,2]]}],\"lanes\":[[],[[2,3,5,6]]]},{\"edits\":[],\"lanes\":[[[9,9,9,9]]]}]}",
-            &[-7, 8, 1, 1, 2, 1, 1, 2, 2, 3, 5, 6, 9, 9, 9, 9],
-        ),
-        (
-            Want::Check,
-            "\"query\":[2,3,5,6],\"certificate\":{\"path\":[[2,4,6],[-9,0,3]]}}",
-            &[2, 3, 5, 6, 1, 2, 3, -3, 0, 1],
-        ),
-        (
-            Want::Check,
-            "\"query\":[2,3,5,6],\"certificate\":{\"chain\":[[5,5,1,2,4,4]]}}",
-            &[2, 3, 5, 6, 5, 5, 1, 1, 2, 2],
-        ),
-    ];
-    for (want, members, wanted) in cases {
-        let text = format!(in rt.alloc(); "{SCENE},{members}")?;
-        let document = read_document(rt.alloc(), text.as_bytes(), want)?;
-        let mut all = Vec::new(rt.alloc());
-        push_task(&mut all, &document.task)?;
-        assert_eq!(rt; all.as_slice(), wanted, "{members}");
+    for (want, members, wanted) in &ASKED {
+        let all = asked(rt.alloc(), *want, *members)?;
+        expect(&rt, all.as_slice(), *wanted, *members);
     }
     Ok(())
 }
