@@ -26,3 +26,21 @@ pub returns-clause-said : goal.returns-clause-said
 returns-clause-said g c =
     let all = take_whole c.args.questions.now c.loop-next.next c.loop-next-test.false in
     subst (λ (qs : List _). Answers g.J.Job.version_of (g.J.Job.gives c.args.job.now) c.loop-next.reader.list (length c.args.reader.now.list - 1) qs (map (λ s. (s.version, s.answer)) c.loop-next.said.items)) all c.loop-next.invariant.3
+
+pub returns-in_err-one-clause-shelf : goal.returns-in_err-one-clause-shelf
+returns-in_err-one-clause-shelf g c = c.ask.ensures.shelf ∙ c.loop-next.invariant.0
+
+pub returns-in_err-one-clause-list : goal.returns-in_err-one-clause-list
+returns-in_err-one-clause-list g c = prefix_trans c.args.reader.now.list c.loop-next.reader.list c.ask.new.reader.list c.loop-next.invariant.2 c.ask.ensures.list
+
+pub returns-in_err-map_err-clause-shelf : goal.returns-in_err-map_err-clause-shelf
+returns-in_err-map_err-clause-shelf g c = c.ask.ensures.shelf ∙ c.loop-next.invariant.0
+
+pub returns-in_err-map_err-clause-list : goal.returns-in_err-map_err-clause-list
+returns-in_err-map_err-clause-list g c = prefix_trans c.args.reader.now.list c.loop-next.reader.list c.ask.new.reader.list c.loop-next.invariant.2 c.ask.ensures.list
+
+pub returns-clause-shelf : goal.returns-clause-shelf
+returns-clause-shelf g c = c.loop-next.invariant.0
+
+pub returns-clause-list : goal.returns-clause-list
+returns-clause-list g c = c.loop-next.invariant.2
