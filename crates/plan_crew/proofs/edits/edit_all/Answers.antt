@@ -19,3 +19,21 @@ loop-next-preserved g c =
       omega (arith, edit_length _ _ _ _ _ _ one.end, inv.5, c.loop-next-test.true),
       edit_version _ _ _ _ _ _ _ _ ((g.met.J.Job g.world.𝓛 g.world.𝓜 g.world.𝓡 ((λ s x. x), (λ x. x), (λ x. x), (λ x. x))).rises c.args.job.now) one.end (omega (arith, c.loop-next-test.true)) inv.6,
     )
+
+pub returns-in_err-end-clause-shelf : goal.returns-in_err-end-clause-shelf
+returns-in_err-end-clause-shelf g c = c.edit_one.ensures.shelf ∙ c.loop-next.invariant.1
+
+pub returns-in_err-end-clause-list : goal.returns-in_err-end-clause-list
+returns-in_err-end-clause-list g c = prefix_trans c.args.editor.now.list c.loop-next.editor.list c.edit_one.new.editor.list c.loop-next.invariant.2 c.edit_one.ensures.list
+
+pub returns-in_err-map_err-clause-shelf : goal.returns-in_err-map_err-clause-shelf
+returns-in_err-map_err-clause-shelf g c = c.edit_one.ensures.shelf ∙ c.loop-next.invariant.1
+
+pub returns-in_err-map_err-clause-list : goal.returns-in_err-map_err-clause-list
+returns-in_err-map_err-clause-list g c = prefix_trans c.args.editor.now.list c.loop-next.editor.list c.edit_one.new.editor.list c.loop-next.invariant.2 c.edit_one.ensures.list
+
+pub returns-clause-shelf : goal.returns-clause-shelf
+returns-clause-shelf g c = c.loop-next.invariant.1
+
+pub returns-clause-list : goal.returns-clause-list
+returns-clause-list g c = c.loop-next.invariant.2
