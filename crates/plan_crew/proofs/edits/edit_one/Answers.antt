@@ -27,3 +27,27 @@ returns-clause-end g c =
     let there : slice_get c.args.editor.now.list last.place ≡ Some c.deref.result.now = rw (sym list) (search rules) in
     let same : c.told.new.self.list ≡ c.args.editor.now.list = search rules in
     edit_refused _ _ _ _ last.place c.deref.result.now c.in-Refused.why _ _ counted there c.in_ok-next.ensures c.in-Refused.is same
+
+pub returns-in_err-last-clause-list : goal.returns-in_err-last-clause-list
+returns-in_err-last-clause-list g c =
+    let same : c.told.new.self.list ≡ c.args.editor.now.list = search rules in
+    rw same (prefix_self _)
+
+pub returns-in_err-next-clause-list : goal.returns-in_err-next-clause-list
+returns-in_err-next-clause-list g c =
+    let same : c.told.new.self.list ≡ c.args.editor.now.list = search rules in
+    rw same (prefix_self _)
+
+pub returns-in_err-entry-in-Taken-clause-list : goal.returns-in_err-entry-in-Taken-clause-list
+returns-in_err-entry-in-Taken-clause-list g c =
+    let same : c.told.new.self.list ≡ c.args.editor.now.list = search rules in
+    rw same (prefix_self _)
+
+pub returns-in-Taken-clause-list : goal.returns-in-Taken-clause-list
+returns-in-Taken-clause-list g c =
+    let grown : c.publish.new.self.list ≡ c.args.editor.now.list ++ c.in-Taken.next ∷ [] = search rules in (c.in-Taken.next ∷ [], sym grown)
+
+pub returns-clause-list : goal.returns-clause-list
+returns-clause-list g c =
+    let same : c.told.new.self.list ≡ c.args.editor.now.list = search rules in
+    rw same (prefix_self _)
