@@ -1,6 +1,6 @@
 ghost use Rattle.plan_grid.specs.Spot.{IsWithin};
 
-use crate::{Chain, NoMemory, Segment, closed, first_unclosed, over, parity};
+use crate::{Chain, Segment, closed, first_unclosed, over, parity};
 use plan_grid::{MOST_COORDINATE, Point, Spot};
 use std::alloc::{AllocError, Global};
 use std::process::Abort;
@@ -56,15 +56,9 @@ fn odd(rt: &impl Abort, segments: &[Segment], points: &[i8], want: bool) {
 }
 
 // The chain of the segments must be closed, or not.
-fn closes(
-    rt: &impl Abort,
-    alloc: Global,
-    segments: Vec<Segment>,
-    want: bool,
-) -> Result<(), NoMemory> {
-    let found = closed(alloc, &Chain { segments })?;
+fn closes(rt: &impl Abort, alloc: Global, segments: Vec<Segment>, want: bool) {
+    let found = closed(alloc, &Chain { segments }).expect(rt, "memory");
     assert!(rt; found == want);
-    Ok(())
 }
 
 // The sides of a box of which the right one ends at one point, and the top one at another.
@@ -96,16 +90,18 @@ fn chosen(
     Ok(segments)
 }
 
-// The first with an odd end of those that are chosen.
+// Of those that are chosen this must be the first with an odd end.
 fn first_odd(
     rt: &impl Abort,
     alloc: Global,
     list: &[Segment],
     numbers: &[usize],
-) -> Result<Option<u32>, NoMemory> {
-    let segments = chosen(rt, alloc, list, numbers)?;
+    want: Option<u32>,
+) {
+    let segments = chosen(rt, alloc, list, numbers).expect(rt, "memory");
     assert!(rt; segments.len() < 100);
-    first_unclosed(alloc, &Chain { segments })
+    let found = first_unclosed(alloc, &Chain { segments }).expect(rt, "memory");
+    assert_eq!(rt; found, want);
 }
 
 #[test]
@@ -122,7 +118,7 @@ fn stands_over_from_its_left_end_to_before_its_right_end(rt: HostRuntime) {
 }
 
 #[test]
-fn is_odd_inside_a_loop(rt: HostRuntime) -> Result<(), NoMemory> {
+fn is_odd_inside_a_loop(rt: HostRuntime) -> Result<(), AllocError> {
     let outer = sides(rt.alloc(), 0, 8, 19)?;
     odd(&rt, &outer, &[2, 2, 0, 1], true);
     odd(&rt, &outer, &[15, 2, 2, 19, 8, 1], false);
@@ -131,56 +127,64 @@ fn is_odd_inside_a_loop(rt: HostRuntime) -> Result<(), NoMemory> {
 }
 
 #[test]
-fn is_even_inside_two_loops(rt: HostRuntime) -> Result<(), NoMemory> {
+fn is_even_inside_two_loops(rt: HostRuntime) -> Result<(), AllocError> {
     let alloc = rt.alloc();
     let mut both = sides(alloc, 0, 8, 19)?;
     let inner = sides(alloc, 2, 6, 9)?;
     both.extend_from_slice(&inner)?;
     odd(&rt, &both, &[4, 4], false);
     odd(&rt, &both, &[1, 4], true);
-    closes(&rt, alloc, both, true)
-}
-
-#[test]
-fn is_closed_where_each_end_stands_twice(rt: HostRuntime) -> Result<(), NoMemory> {
-    let alloc = rt.alloc();
-    closes(&rt, alloc, sides(alloc, 0, 8, 19)?, true)?;
-    closes(&rt, alloc, segments(alloc, &[0, 0, 8, 0])?, false)?;
-    closes(&rt, alloc, Vec::new(alloc), true)
-}
-
-#[test]
-fn counts_ends_by_position(rt: HostRuntime) -> Result<(), NoMemory> {
-    let alloc = rt.alloc();
-    let corner = Point::of(spot(8, 19));
-    let whole = Point::new(24, 57, 3).expect(&rt, "(8, 19)");
-    let half = Point::new(17, 1, 2).expect(&rt, "(17/2, 1/2)");
-    closes(&rt, alloc, sides_to(alloc, whole, corner)?, true)?;
-    closes(&rt, alloc, sides_to(alloc, half, corner)?, false)?;
-    closes(&rt, alloc, sides_to(alloc, half, half)?, true)
-}
-
-#[test]
-fn names_the_first_segment_with_an_odd_end(rt: HostRuntime) -> Result<(), NoMemory> {
-    let alloc = rt.alloc();
-    let list = sides(alloc, 0, 8, 19)?;
-    assert!(rt; first_odd(&rt, alloc, &list, &[0, 1, 2, 3])? == None);
-    assert!(rt; first_odd(&rt, alloc, &list, &[])? == None);
-    assert!(rt; first_odd(&rt, alloc, &list, &[0])? == Some(0));
-    // without the top the corners (8, 19) and (0, 19) are odd, and the second segment has the first of them
-    assert!(rt; first_odd(&rt, alloc, &list, &[0, 1, 3])? == Some(1));
+    closes(&rt, alloc, both, true);
     Ok(())
 }
 
 #[test]
-fn names_the_first_that_stands_an_odd_number_of_times(rt: HostRuntime) -> Result<(), NoMemory> {
+fn is_closed_where_each_end_stands_twice(rt: HostRuntime) -> Result<(), AllocError> {
+    let alloc = rt.alloc();
+    closes(&rt, alloc, sides(alloc, 0, 8, 19)?, true);
+    closes(&rt, alloc, segments(alloc, &[0, 0, 8, 0])?, false);
+    closes(&rt, alloc, Vec::new(alloc), true);
+    Ok(())
+}
+
+// The sides of the box must be closed, or not, where the right one ends at one point, and the top one at another.
+fn closes_at(rt: &impl Abort, alloc: Global, right: Point, top: Point, want: bool) {
+    let sides = sides_to(alloc, right, top).expect(rt, "memory");
+    closes(rt, alloc, sides, want);
+}
+
+#[test]
+fn counts_ends_by_position(rt: HostRuntime) {
+    let alloc = rt.alloc();
+    let corner = Point::of(spot(8, 19));
+    let whole = Point::new(24, 57, 3).expect(&rt, "(8, 19)");
+    let half = Point::new(17, 1, 2).expect(&rt, "(17/2, 1/2)");
+    closes_at(&rt, alloc, whole, corner, true);
+    closes_at(&rt, alloc, half, corner, false);
+    closes_at(&rt, alloc, half, half, true);
+}
+
+#[test]
+fn names_the_first_segment_with_an_odd_end(rt: HostRuntime) -> Result<(), AllocError> {
+    let alloc = rt.alloc();
+    let list = sides(alloc, 0, 8, 19)?;
+    first_odd(&rt, alloc, &list, &[0, 1, 2, 3], None);
+    first_odd(&rt, alloc, &list, &[], None);
+    first_odd(&rt, alloc, &list, &[0], Some(0));
+    // without the top the corners (8, 19) and (0, 19) are odd, and the second segment has the first of them
+    first_odd(&rt, alloc, &list, &[0, 1, 3], Some(1));
+    Ok(())
+}
+
+#[test]
+fn names_the_first_that_stands_an_odd_number_of_times(rt: HostRuntime) -> Result<(), AllocError> {
     let alloc = rt.alloc();
     let loop_and_one = [
         0, 0, 8, 0, 8, 0, 8, 19, 0, 19, 8, 19, 0, 0, 0, 19, 20, 0, 21, 0,
     ];
     let list = segments(alloc, &loop_and_one)?;
-    assert!(rt; first_odd(&rt, alloc, &list, &[3, 2, 1, 0, 4])? == Some(4));
-    assert!(rt; first_odd(&rt, alloc, &list, &[0, 0])? == None);
-    assert!(rt; first_odd(&rt, alloc, &list, &[0, 0, 0])? == Some(0));
+    first_odd(&rt, alloc, &list, &[3, 2, 1, 0, 4], Some(4));
+    first_odd(&rt, alloc, &list, &[0, 0], None);
+    first_odd(&rt, alloc, &list, &[0, 0, 0], Some(0));
     Ok(())
 }
