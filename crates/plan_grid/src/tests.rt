@@ -393,6 +393,8 @@ fn ratios_have_a_mediant(rt: HostRuntime) {
     for row in MEDIANTS.lines() {
         let [a_num, a_den, b_num, b_den, num, den] = numbers::<6>(&rt, row);
         let (a, b) = (ratio(&rt, a_num, a_den), ratio(&rt, b_num, b_den));
+        check_small(&rt, a);
+        check_small(&rt, b);
         assert!(rt; is_kept_as(mediant(a, b), num, den), "{row}");
     }
 }
