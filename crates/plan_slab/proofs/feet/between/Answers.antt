@@ -1,5 +1,7 @@
 -- The weight of the line is taken out of the two points.
-use Rattle.std.proofs.Common.{rules, ◌≡◌, ◌^◌, pos, ◌+ℤ◌, ◌*ℤ◌, ap₂, ◌∙◌, sym, subst}
+use Rattle.std.proofs.Common.{◌≡◌, ◌*◌, ◌≤◌, ◌^◌, pos, ◌+ℤ◌, ◌*ℤ◌, ap, ap₂, ◌∙◌, sym, subst, arith}
+use Rattle.std.specs.Int.RustNames.{unsigned_abs}
+use Rattle.plan_exact.proofs.Sizes.{product_at_most}
 use Rattle.plan_spec.specs.Vector.{Same}
 use Rattle.plan_spec.specs.Regions.{halfway}
 use Rattle.plan_grid.specs.Bounds.{IsBounded}
@@ -8,9 +10,26 @@ use Rattle.plan_slab.proofs.Bounded.{on_line_by, between_same, between_bounded}
 use Rattle.plan_slab.proofs.feet.between.Goals as goal
 use Rattle.plan_slab.proofs.feet.between.Goals.{After-times-3}
 
+pub times-requires : goal.times-requires
+times-requires c =
+    let l = c.requires.line in
+    omega (arith, product_at_most (unsigned_abs c.num.result) (unsigned_abs c.middle-sum.result.1) (2046 * 2 ^ 25) (2 ^ 75) (omega (arith, ap unsigned_abs c.num.ensures.value, l.ratio.num_bounded, l.bounded)) c.middle-sum.ensures.den_bounded)
+
+pub times-requires-2 : goal.times-requires-2
+times-requires-2 c =
+    let m = c.middle-sum.ensures in
+    omega (arith, product_at_most (unsigned_abs c.den.result) (unsigned_abs c.middle-sum.result.0) (2 ^ 25) (2046 * 2 ^ 75) (omega (arith, ap unsigned_abs c.den.ensures.value, c.requires.line.bounded)) (omega (arith, m.num_bounded, m.den_bounded)))
+
+pub times-requires-3 : goal.times-requires-3
+times-requires-3 c = omega (arith, product_at_most (unsigned_abs c.den-2.result) (unsigned_abs c.middle-sum.result.1) (2 ^ 25) (2 ^ 75) (omega (arith, ap unsigned_abs c.den-2.ensures.value, c.requires.line.bounded)) c.middle-sum.ensures.den_bounded)
+
 module _ (c : After-times-3) where
   computed : record { x = c.times.result; y = c.times-2.result; w = c.times-3.result } ≡ on_line_by c.args.line c.middle-sum.result.0 c.middle-sum.result.1
-  computed = search rules
+  computed = λ i. record {
+    x = (c.times.ensures.value ∙ ap (λ n. n *ℤ c.middle-sum.result.1) c.num.ensures.value) i;
+    y = (c.times-2.ensures.value ∙ ap (λ d. d *ℤ c.middle-sum.result.0) c.den.ensures.value) i;
+    w = (c.times-3.ensures.value ∙ ap (λ d. d *ℤ c.middle-sum.result.1) c.den-2.ensures.value) i;
+  }
 
 pub returns-clause-same : goal.returns-clause-same
 returns-clause-same c =
