@@ -1,5 +1,5 @@
 -- A mark is an end of a piece, or where an edge between spots meets the line: so its denominator divides that of the line times a small factor.
-use Rattle.std.proofs.Common.{◌≡◌, inl, inr, ℕ, zero, suc, ◌*◌, ◌/◌, ◌<◌, ◌≤◌, ◌^◌, ℤ, pos, ◌-ℤ◌, ◌*ℤ◌, ◌<ℤ◌, List, [], ◌∷◌, length, get_or, All, refl, sym, ap, subst, unsigned_abs, arith}
+use Rattle.std.proofs.Common.{◌≡◌, inl, inr, ℕ, zero, suc, ◌*◌, ◌/◌, ◌<◌, ◌≤◌, ◌^◌, ℤ, pos, ◌-ℤ◌, ◌*ℤ◌, ◌<ℤ◌, List, [], ◌∷◌, length, get_or, All, Any, refl, sym, ap, subst, unsigned_abs, arith}
 use Rattle.std.specs.Int.{◌∣◌}
 use Rattle.std.specs.List.{flat_map}
 use Rattle.std.proofs.Math.Nat.{div-mul_cancel}
@@ -187,13 +187,17 @@ heights_on sums room pieces lines spans marks are rows ranges within low high k 
         subst (λ x. AreMarks pieces x (marks_seen (get_or lines k d) (get_or marks k []))) (get_or-map line_seen lines k d nowhere there)
         (subst (AreMarks pieces (line_at (slabs_seen lines spans marks) k)) (rows_at lines marks k d there here) h)
 
+    -- a mark of some piece
+    of_piece : (m : Fraction) → IsHeight m → IsPoint (point_at l m) → Any (IsMark (point_at l m)) pieces → IsHeightOn l m
+    of_piece m hm hz (n, p, below, is, mark) =
+        let piece : IsPiece (sums_seen sums) (frame_seen room) p = subst (IsPiece (sums_seen sums) (frame_seen room)) is ((has_pieces are.floor are.bound).each n p below) in
+        let range : IsPieceInRange p = subst IsPieceInRange is (ranges n p below) in
+        mark_height (sums_seen sums) (frame_seen room) l m p hl hm piece range (All-contains IsShort (boundary (sums_seen sums) (frame_seen room)) (edge_of (sums_seen sums) (frame_seen room) p) (boundary_short sums room within low high) piece.is_edge) hz mark
+
     each : All (IsHeightOn (get_or lines k d)) (get_or marks k [])
     each j c less =
         let m = get_or ms j c in
-        let hm : IsHeight m = heights j c less in
         let z = point_at l m in
+        let hm : IsHeight m = heights j c less in
         let hz : IsPoint (point_at l m) = mark_point l m hl hm in
-        let (n, p, below, is, mark) = (marked.exact z hz (mark_same_x l m)).1 (j, z, omega (arith, less, length-map ms (point_at l)), get_or-map (point_at l) ms j c z less, (refl, refl)) in
-        let piece = subst (IsPiece (sums_seen sums) (frame_seen room)) is ((has_pieces are.floor are.bound).each n p below) in
-        let range = subst IsPieceInRange is (ranges n p below) in
-        mark_height (sums_seen sums) (frame_seen room) l m p hl hm piece range (All-contains IsShort (boundary (sums_seen sums) (frame_seen room)) (edge_of (sums_seen sums) (frame_seen room) p) (boundary_short sums room within low high) piece.is_edge) hz mark
+        of_piece m hm hz ((marked.exact z hz (mark_same_x l m)).1 (j, z, omega (arith, less, length-map ms (point_at l)), get_or-map (point_at l) ms j c z less, (refl, refl)))

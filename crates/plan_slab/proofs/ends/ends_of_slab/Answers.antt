@@ -2,12 +2,38 @@
 use Rattle.std.proofs.Common.{◌≡◌, ◌+◌, ◌<◌, ◌≤◌, [], length, map, get_or, All, sym, ◌∙◌, subst, arith}
 use Rattle.std.proofs.lemmas.List.{length-map}
 use Rattle.plan_slab.specs.Ends.{AreMeets, ArePairs}
+use Rattle.plan_slab.specs.EventLines.{IsLine}
 use Rattle.plan_slab.specs.Heights.{IsHeight}
 use Rattle.plan_slab.specs.Seen.{strand_seen, marks_seen}
 use Rattle.plan_slab.proofs.SlabEnds.{spotted, left_marks, left_in_order, right_marks, right_in_order, ends_of_spans}
 use Rattle.plan_slab.proofs.SlabsSeen.{row_at}
 use Rattle.plan_slab.proofs.ends.ends_of_slab.Goals as goal
 use Rattle.plan_slab.proofs.ends.ends_of_slab.Goals.{After-deref-2, After-deref-4}
+
+-- ---- the numbers are of lines, spans and marks
+pub bounds-lines-k : goal.bounds-lines-k
+bounds-lines-k c = omega (arith, c.requires.slab, c.requires.rows.slab_count, length-map c.args.spans.now (λ v. v.items))
+
+pub bounds-lines-k-2 : goal.bounds-lines-k-2
+bounds-lines-k-2 c = omega (arith, c.requires.slab, c.requires.rows.slab_count, length-map c.args.spans.now (λ v. v.items))
+
+pub bounds-marks-k : goal.bounds-marks-k
+bounds-marks-k c = omega (arith, c.requires.slab, c.requires.rows.slab_count, c.requires.rows.line_count, length-map c.args.spans.now (λ v. v.items), length-map c.args.marks.now (λ v. v.items))
+
+pub bounds-marks-k-2 : goal.bounds-marks-k-2
+bounds-marks-k-2 c = omega (arith, c.requires.slab, c.requires.rows.slab_count, c.requires.rows.line_count, length-map c.args.spans.now (λ v. v.items), length-map c.args.marks.now (λ v. v.items))
+
+pub overflow_add-k : goal.overflow_add-k
+overflow_add-k c = omega (arith, c.requires.slab, c.requires.rows.slab_count, c.requires.rows.few_lines, length-map c.args.spans.now (λ v. v.items))
+
+pub overflow_add-k-2 : goal.overflow_add-k-2
+overflow_add-k-2 c = omega (arith, c.requires.slab, c.requires.rows.slab_count, c.requires.rows.few_lines, length-map c.args.spans.now (λ v. v.items))
+
+pub numbers_on-requires-clause-line : goal.numbers_on-requires-clause-line
+numbers_on-requires-clause-line c = subst IsLine (sym c.index-lines-k.is) (c.requires.rows.each_line c.args.k c.index-lines-k.result (omega (arith, c.requires.slab, c.requires.rows.slab_count, length-map c.args.spans.now (λ v. v.items))))
+
+pub numbers_on-requires-2-clause-line : goal.numbers_on-requires-2-clause-line
+numbers_on-requires-2-clause-line c = subst IsLine (sym c.index-lines-k-2.is) (c.requires.rows.each_line (c.args.k + 1) c.index-lines-k-2.result (omega (arith, c.requires.slab, c.requires.rows.slab_count, length-map c.args.spans.now (λ v. v.items))))
 
 -- ---- on the left
 module _ (c : After-deref-2) where

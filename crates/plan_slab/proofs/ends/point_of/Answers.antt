@@ -1,5 +1,5 @@
 -- The three products are the point.
-use Rattle.std.proofs.Common.{◌≡◌, ◌*◌, ◌≤◌, ◌^◌, ◌*ℤ◌, ap, ap₂, ◌∙◌, sym, subst, arith}
+use Rattle.std.proofs.Common.{◌≡◌, ◌*◌, ◌^◌, ◌*ℤ◌, ap, ap₂, ◌∙◌, sym, subst, arith}
 use Rattle.std.specs.Int.RustNames.{unsigned_abs}
 use Rattle.plan_exact.proofs.Sizes.{product_at_most}
 use Rattle.plan_grid.specs.Bounds.{IsBounded}

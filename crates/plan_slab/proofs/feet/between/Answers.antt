@@ -1,5 +1,5 @@
 -- The weight of the line is taken out of the two points.
-use Rattle.std.proofs.Common.{◌≡◌, ◌*◌, ◌≤◌, ◌^◌, pos, ◌+ℤ◌, ◌*ℤ◌, ap, ap₂, ◌∙◌, sym, subst, arith}
+use Rattle.std.proofs.Common.{◌≡◌, ◌*◌, ◌^◌, pos, ◌+ℤ◌, ◌*ℤ◌, ap, ap₂, ◌∙◌, sym, subst, arith}
 use Rattle.std.specs.Int.RustNames.{unsigned_abs}
 use Rattle.plan_exact.proofs.Sizes.{product_at_most}
 use Rattle.plan_spec.specs.Vector.{Same}

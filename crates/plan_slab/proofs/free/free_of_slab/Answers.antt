@@ -7,12 +7,54 @@ use Rattle.plan_spec.specs.Regions.{Kept, wall}
 use Rattle.plan_slab.specs.FreeLots.{IsFreeWall}
 use Rattle.plan_grid.specs.Frame.{frame_seen}
 use Rattle.plan_convex.specs.Piece.{sums_seen}
+use Rattle.plan_slab.specs.EventLines.{IsLine}
 use Rattle.plan_slab.specs.Heights.{IsOver, IsHeight}
 use Rattle.plan_slab.specs.Seen.{strand_seen, marks_seen, lot_seen}
 use Rattle.plan_slab.specs.SlabsSeen.{slabs_seen}
 use Rattle.plan_slab.proofs.FreeLots.{slab_of}
 use Rattle.plan_slab.proofs.SlabsSeen.{row_at, mediant_seen_at, spans_seen_at, marks_seen_at}
 use Rattle.plan_slab.proofs.free.free_of_slab.Goals as goal
+
+-- ---- the numbers are of lines, spans and marks
+pub bounds-lines-k : goal.bounds-lines-k
+bounds-lines-k c = omega (arith, c.requires.slab, c.requires.rows.slab_count, length-map c.args.spans.now (λ v. v.items))
+
+pub bounds-lines-k-2 : goal.bounds-lines-k-2
+bounds-lines-k-2 c = omega (arith, c.requires.slab, c.requires.rows.slab_count, length-map c.args.spans.now (λ v. v.items))
+
+pub bounds-lines-k-3 : goal.bounds-lines-k-3
+bounds-lines-k-3 c = omega (arith, c.requires.slab, c.requires.rows.slab_count, length-map c.args.spans.now (λ v. v.items))
+
+pub bounds-marks-k : goal.bounds-marks-k
+bounds-marks-k c = omega (arith, c.requires.slab, c.requires.rows.slab_count, c.requires.rows.line_count, length-map c.args.spans.now (λ v. v.items), length-map c.args.marks.now (λ v. v.items))
+
+pub overflow_add-k : goal.overflow_add-k
+overflow_add-k c = omega (arith, c.requires.slab, c.requires.rows.slab_count, c.requires.rows.few_lines, length-map c.args.spans.now (λ v. v.items))
+
+pub overflow_add-k-2 : goal.overflow_add-k-2
+overflow_add-k-2 c = omega (arith, c.requires.slab, c.requires.rows.slab_count, c.requires.rows.few_lines, length-map c.args.spans.now (λ v. v.items))
+
+pub overflow_add-k-3 : goal.overflow_add-k-3
+overflow_add-k-3 c = omega (arith, c.requires.slab, c.requires.rows.slab_count, c.requires.rows.few_lines, length-map c.args.spans.now (λ v. v.items))
+
+pub overflow_add-k-4 : goal.overflow_add-k-4
+overflow_add-k-4 c = omega (arith, c.requires.slab, c.requires.rows.slab_count, c.requires.rows.few_lines, length-map c.args.spans.now (λ v. v.items))
+
+pub overflow_cast-k : goal.overflow_cast-k
+overflow_cast-k c = omega (arith, c.requires.slab, c.requires.rows.slab_count, c.requires.rows.few_lines, length-map c.args.spans.now (λ v. v.items))
+
+pub overflow_cast-k-2 : goal.overflow_cast-k-2
+overflow_cast-k-2 c = omega (arith, c.requires.slab, c.requires.rows.slab_count, c.requires.rows.few_lines, length-map c.args.spans.now (λ v. v.items))
+
+-- ---- what the tests ask
+pub mediant_of-x-requires-clause-left : goal.mediant_of-x-requires-clause-left
+mediant_of-x-requires-clause-left c = subst IsLine (sym c.index-lines-k.is) (c.requires.rows.each_line c.args.k c.index-lines-k.result (omega (arith, c.requires.slab, c.requires.rows.slab_count, length-map c.args.spans.now (λ v. v.items))))
+
+pub mediant_of-x-requires-clause-right : goal.mediant_of-x-requires-clause-right
+mediant_of-x-requires-clause-right c = subst IsLine (sym c.index-lines-k-2.is) (c.requires.rows.each_line (c.args.k + 1) c.index-lines-k-2.result (omega (arith, c.requires.slab, c.requires.rows.slab_count, length-map c.args.spans.now (λ v. v.items))))
+
+pub free_walls-requires-clause-x : goal.free_walls-requires-clause-x
+free_walls-requires-clause-x c = subst IsLine (sym c.index-lines-k-3.is) (c.requires.rows.each_line (c.args.k + 1) c.index-lines-k-3.result (omega (arith, c.requires.slab, c.requires.rows.slab_count, length-map c.args.spans.now (λ v. v.items))))
 
 pub free_cells-requires-clause-over : goal.free_cells-requires-clause-over
 free_cells-requires-clause-over c =

@@ -1,5 +1,5 @@
 -- It is enough to test the near sums.
-use Rattle.std.proofs.Common.{◌≡◌, ◌⊎◌, ⊎_elim, ℕ, ◌<◌, ap, refl, sym, ◌∙◌, ◌+◌, subst, eq-or-lt_of_le, get_or, arith}
+use Rattle.std.proofs.Common.{◌≡◌, Bool, true, false, ◌⊎◌, ⊎_elim, ℕ, ◌<◌, ap, refl, sym, ◌∙◌, ◌+◌, subst, eq-or-lt_of_le, get_or, arith}
 use Rattle.plan_exact.proofs.Laws.{linear}
 use Rattle.plan_spec.specs.Vector.{IsPoint}
 use Rattle.std.proofs.lemmas.List.{get_or_default}
@@ -9,6 +9,10 @@ use Rattle.plan_slab.specs.Near.{IsHeldAt}
 use Rattle.plan_slab.proofs.Boxes.{held_at}
 use Rattle.plan_slab.proofs.Regions.NearSums.{clear_near}
 use Rattle.plan_slab.proofs.near.is_clear.Goals as goal
+
+-- a test is not both
+not_both : {b : Bool} → b ≡ true → ¬ (b ≡ false)
+not_both t f = cc
 
 pub returns-then-not-is_within : goal.returns-then-not-is_within
 returns-then-not-is_within c =
@@ -36,7 +40,7 @@ loop-i-preserved c = λ k d less held. ⊎_elim (λ e. this (subst (IsHeldAt c.a
     last k less = eq-or-lt_of_le (omega (arith, less))
 
     this : ¬ (IsHeldAt c.args.sums.now c.args.boxes.now c.args.z (get_or c.args.near.now c.loop-i.i-index 0))
-    this held = let h = held c.index-sums-i.result _ in let e = c.is_held.ensures.1 (h.0, subst (λ vs. Inside (spots_seen vs) c.args.z) (sym c.index-sums-i.is) h.1) in cc
+    this held = let h = held c.index-sums-i.result _ in not_both (c.is_held.ensures.1 (h.0, subst (λ vs. Inside (spots_seen vs) c.args.z) (sym c.index-sums-i.is) h.1)) c.if-is_held.false
 
 pub returns : goal.returns
 returns c =
