@@ -11,6 +11,7 @@ use Rattle.plan_slab.specs.LineMarks.{Meets}
 use Rattle.plan_slab.specs.Seen.{line_seen}
 use Rattle.plan_slab.specs.SlabsSeen.{slabs_seen}
 use Rattle.plan_slab.specs.Sweeps.{AreAcross}
+use Rattle.plan_slab.proofs.Faults.{only_memory}
 use Rattle.plan_slab.proofs.FoundRows.{rows_found}
 use Rattle.plan_slab.proofs.LinesSeen.{lines_seen, is_slab}
 use Rattle.plan_slab.proofs.PieceEdges.{edges_below}
@@ -27,6 +28,25 @@ bars_of-requires-clause-points c = λ k d within. ((has_pieces c.requires.floor 
 
 pub bars_of-requires-clause-edges : goal.bars_of-requires-clause-edges
 bars_of-requires-clause-edges c = edges_below c.requires.bound
+
+-- ---- want of memory
+pub returns-in_err-bars-clause-many : goal.returns-in_err-bars-clause-many
+returns-in_err-bars-clause-many c = only_memory _ c.from_residual.result c.from_residual.ensures.1
+
+pub returns-in_err-next-clause-many : goal.returns-in_err-next-clause-many
+returns-in_err-next-clause-many c = only_memory _ c.from_residual-in_err-next.result c.from_residual-in_err-next.ensures.1
+
+pub returns-in_err-marks-clause-many : goal.returns-in_err-marks-clause-many
+returns-in_err-marks-clause-many c = only_memory _ c.from_residual-in_err-marks.result c.from_residual-in_err-marks.ensures.1
+
+pub returns-in_err-spans-clause-many : goal.returns-in_err-spans-clause-many
+returns-in_err-spans-clause-many c = only_memory _ c.from_residual-in_err-spans.result c.from_residual-in_err-spans.ensures.1
+
+pub returns-in_err-take_up-clause-many : goal.returns-in_err-take_up-clause-many
+returns-in_err-take_up-clause-many c = only_memory _ c.from_residual-in_err-take_up.result c.from_residual-in_err-take_up.ensures.1
+
+pub returns-in_err-marks-2-clause-many : goal.returns-in_err-marks-2-clause-many
+returns-in_err-marks-2-clause-many c = only_memory _ c.from_residual-in_err-marks-2.result c.from_residual-in_err-marks-2.ensures.1
 
 -- ---- without lines
 module _ (c : After-drop-bars) where
