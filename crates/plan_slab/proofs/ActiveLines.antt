@@ -4,7 +4,7 @@ use Rattle.std.proofs.lemmas.Bool.{cases_order}
 use Rattle.std.proofs.lemmas.List.Elements.{All-nil, All-contains}
 use Rattle.plan_spec.specs.Vector.{Vector, IsPoint, LeX}
 use Rattle.plan_spec.specs.Frame.{Frame}
-use Rattle.plan_spec.specs.Pieces.{Piece, piece}
+use Rattle.plan_spec.specs.Pieces.{Piece}
 use Rattle.plan_spec.specs.Slabs.{piece_at}
 use Rattle.plan_plane.proofs.Segment.ByX.{leX_trans}
 use Rattle.plan_grid.specs.Fraction.{Fraction}

@@ -1,5 +1,5 @@
 -- The bars of all pieces, and that a sort puts them in the order of where they begin.
-use Rattle.std.proofs.Common.{◌≡◌, ⊎_elim, ℕ, ◌+◌, ◌<◌, ◌*ℤ◌, ℤ, false, refl, sym, subst, ◌∙◌, List, [], ◌∷◌, ◌++◌, get_or, length, All, Any, arith}
+use Rattle.std.proofs.Common.{◌≡◌, ⊎_elim, ℕ, ◌+◌, ◌<◌, ◌*ℤ◌, false, refl, sym, subst, ◌∙◌, List, [], ◌∷◌, ◌++◌, get_or, length, All, Any, arith}
 use Rattle.std.specs.List.Sorted.{IsPermutation, IsSortedByKey}
 use Rattle.std.specs.Ordering.{is_lt, ordering_then}
 use Rattle.std.specs.declared.cmp.Ordering.{Ordering}

@@ -1,5 +1,5 @@
 -- Each list of pieces has slabs, and these have regions: the lines and the marks sorted, and of the pieces that go across a slab the first of each height.
-use Rattle.std.proofs.Common.{◌≡◌, ◌⊎◌, inl, inr, ℕ, zero, suc, ◌-◌, ◌<◌, ◌≤◌, ℤ, ◌*ℤ◌, List, [], ◌∷◌, map, length, get_or, All, Any, ap, refl, sym, subst, arith}
+use Rattle.std.proofs.Common.{◌≡◌, ◌⊎◌, inl, inr, ℕ, zero, suc, ◌-◌, ◌<◌, ◌≤◌, ◌*ℤ◌, List, [], ◌∷◌, map, length, get_or, All, Any, ap, refl, sym, subst, arith}
 use Rattle.std.specs.List.{flat_map}
 use Rattle.std.proofs.lemmas.Bool.{cases_order}
 use Rattle.std.proofs.lemmas.List.Elements.{All-nil, All-cons, All-map, All-weaker}

@@ -1,5 +1,5 @@
 -- The marks of one piece on a line are its heights there: the foot of the line where the piece is from left to right and the line in its range, both ends where it is upright and on the line.
-use Rattle.std.proofs.Common.{◌≡◌, ◌↔◌, inl, inr, ⊎_elim, ℤ, pos, ◌-ℤ◌, ◌*ℤ◌, ◌<ℤ◌, Bool, true, false, ◌&&◌, cond, int_lt, int_le, List, [], ◌∷◌, All, Any, refl, sym, arith}
+use Rattle.std.proofs.Common.{◌≡◌, ◌↔◌, inl, inr, ⊎_elim, pos, ◌-ℤ◌, ◌*ℤ◌, ◌<ℤ◌, Bool, true, false, ◌&&◌, cond, int_lt, int_le, List, [], ◌∷◌, All, Any, refl, sym, arith}
 use Rattle.std.specs.Ordering.{int_eq}
 use Rattle.std.proofs.lemmas.Bool.{and_parts, and_from}
 use Rattle.std.proofs.lemmas.Bool.Decides.{Decides-int_eq}

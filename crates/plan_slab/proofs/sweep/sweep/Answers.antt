@@ -1,5 +1,5 @@
 -- At each line the bars held are those that meet it, and in each slab those that cross it.
-use Rattle.std.proofs.Common.{◌≡◌, ◌+◌, ◌-◌, ◌<◌, ◌≤◌, [], sym, subst, length, get_or, All, arith}
+use Rattle.std.proofs.Common.{◌≡◌, ◌+◌, ◌<◌, ◌≤◌, [], sym, subst, length, get_or, All, arith}
 use Rattle.std.proofs.lemmas.Result.{err_from_is_err_and}
 use Rattle.plan_spec.specs.Regions.{mediant}
 use Rattle.plan_spec.specs.Slabs.{AreSlabs}
