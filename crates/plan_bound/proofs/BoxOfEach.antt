@@ -1,11 +1,14 @@
 -- A box for each sum: one more sum has one more box.
-use Rattle.std.proofs.Common.{◌≡◌, ◌⊎◌, ⊎_elim, ℕ, ◌+◌, ◌<◌, List, [], ◌∷◌, ◌++◌, take, length, get_or, All, sym, subst, eq-or-lt_of_le, arith}
+use Rattle.std.proofs.Common.{◌≡◌, ◌⊎◌, ⊎_elim, ℕ, ◌+◌, ◌<◌, List, [], ◌∷◌, ◌++◌, take, length, get_or, All, refl, sym, subst, eq-or-lt_of_le, arith}
 use Rattle.std.proofs.lemmas.List.{get_or_append_left, take_more, length-append}
 use Rattle.std.proofs.Math.Seq.{get_or-append_seam}
 use Rattle.plan_grid.specs.declared.frame.Frame.{Frame}
 use Rattle.plan_grid.specs.declared.spot.Spot.{Spot}
 use Rattle.plan_convex.specs.Boxes.{Encloses}
 use Rattle.plan_bound.specs.Cover.{AreBoxes}
+
+pub no_boxes : AreBoxes [] []
+no_boxes = record { same_length = refl; enclose = λ k v f within. absurd (omega arith) }
 
 one_more : (sums : List (List Spot)) (boxes : List Frame) (v : List Spot) (b : Frame) → AreBoxes sums boxes → All (Encloses b) v → AreBoxes (sums ++ v ∷ []) (boxes ++ b ∷ [])
 one_more sums boxes v b h new = record {

@@ -1,11 +1,12 @@
-ghost use Rattle.std.specs.Prelude.{◌≡◌, ◌≤◌};
+ghost use Rattle.std.specs.Prelude.{◌≡◌, ◌≤◌, length};
 ghost use Rattle.plan_grid.specs.Spot.{IsWithin};
 
 use crate::{NoMemory, uncovered};
-use plan_convex::{Convex, Piece, Pieces, sum};
+use plan_convex::{Convex, Piece, sum};
 use plan_grid::{Frame, MOST_COORDINATE, Point, Spot};
 use plan_watch::OpenGate;
 use std::alloc::Global;
+use std::process::Abort;
 use std::thread::Threads;
 
 fn spot(x: i8, y: i8) -> Spot
@@ -54,79 +55,98 @@ fn room() -> Frame
     }
 }
 
-// Whether the piece is of that edge, from the first point to the second.
-fn is_piece(piece: Piece, edge: u32, a: Spot, b: Spot) -> bool
-    requires a { IsWithin MOST_COORDINATE a }
-    requires b { IsWithin MOST_COORDINATE b }
-{
-    piece.edge == edge && piece.a == Point::of(a) && piece.b == Point::of(b)
+// The numbers of a row: an edge, and x and y of both ends.
+fn numbers(rt: &impl Abort, row: &str) -> [i64; 5] {
+    let mut found = [0; 5];
+    let mut count = 0;
+    for word in row.split(' ') {
+        assert!(rt; count < 5, "{row}");
+        found[count] = word.parse::<i64>().ok().expect(rt, "a number");
+        count += 1;
+    }
+    assert!(rt; count == 5, "{row}");
+    found
 }
 
-// Whether the pieces are these: the edge, and x and y of both ends.
-fn are(pieces: &Pieces, want: &[(u32, i8, i8, i8, i8)]) -> bool {
-    if pieces.list.len() != want.len() {
-        return false;
-    }
-    for i in 0..want.len() {
-        let (edge, ax, ay, bx, by) = want[i];
-        if !is_piece(pieces.list[i], edge, spot(ax, ay), spot(bx, by)) {
-            return false;
-        }
-    }
-    true
+// Whether the point is kept as (`x`, `y`).
+fn is_at(point: Point, x: i64, y: i64) -> bool {
+    point.x() == x && point.y() == y && point.w() == 1
 }
+
+// Whether the piece is that of a row.
+fn is_piece(piece: Piece, row: [i64; 5]) -> bool {
+    let [edge, ax, ay, bx, by] = row;
+    i64::from(piece.edge) == edge && is_at(piece.a, ax, ay) && is_at(piece.b, bx, by)
+}
+
+// The pieces must be these, one in a row.
+fn must_be(rt: &impl Abort, pieces: &[Piece], want: &str) {
+    let mut count = 0;
+    for row in want.lines() {
+        assert!(rt; count < pieces.len(), "{row}");
+        assert!(rt; is_piece(pieces[count], numbers(rt, row)), "{row}");
+        count += 1;
+    }
+    assert!(rt; count == pieces.len());
+}
+
+// What sums leave in the room must be these pieces.
+fn leaves(
+    rt: &(impl Threads + Sync + Abort),
+    alloc: Global,
+    sums: &[Convex],
+    workers: u8,
+    want: &str,
+) -> Result<(), NoMemory>
+    requires sums { length sums.now ≤ 512 }
+    requires at_least_one { 1 ≤ workers }
+    requires at_most_16 { workers ≤ 16 }
+{
+    let pieces = uncovered(rt, alloc, sums, room(), workers, &OpenGate)?;
+    must_be(rt, &pieces.list, want);
+    Ok(())
+}
+
+const ROUND_A_BAR: &str = "3 9 10 9 10
+4 8 10 9 10
+5 8 0 8 10
+6 8 10 8 10
+8 11 0 11 10
+9 8 10 11 10
+10 0 0 8 0
+10 11 0 19 0
+11 19 0 19 19
+12 0 19 19 19
+13 0 0 0 19";
 
 #[test]
 fn finds_the_pieces_round_a_bar(rt: HostRuntime) -> Result<(), NoMemory> {
     let sums = [hexagon(), quadrangle()];
-    let want = [
-        (3, 9, 10, 9, 10),
-        (4, 8, 10, 9, 10),
-        (5, 8, 0, 8, 10),
-        (6, 8, 10, 8, 10),
-        (8, 11, 0, 11, 10),
-        (9, 8, 10, 11, 10),
-        (10, 0, 0, 8, 0),
-        (10, 11, 0, 19, 0),
-        (11, 19, 0, 19, 19),
-        (12, 0, 19, 19, 19),
-        (13, 0, 0, 0, 19),
-    ];
     for workers in [1, 2, 16] {
-        let pieces = uncovered(&rt, rt.alloc(), &sums, room(), workers, &OpenGate)?;
-        assert!(rt; are(&pieces, &want), "by {workers}");
+        leaves(&rt, rt.alloc(), &sums, workers, ROUND_A_BAR)?;
     }
     Ok(())
 }
 
+const SIDES: &str = "0 0 0 19 0
+1 19 0 19 19
+2 0 19 19 19
+3 0 0 0 19";
+
+#[test]
+fn gives_the_sides_of_a_room_without_sums(rt: HostRuntime) -> Result<(), NoMemory> {
+    leaves(&rt, rt.alloc(), &[], 1, SIDES)
+}
+
+const SIDES_AFTER_ONE: &str = "6 0 0 19 0
+7 19 0 19 19
+8 0 19 19 19
+9 0 0 0 19";
+
 #[test]
 fn gives_the_sides_of_a_room_without_sums_in_it(rt: HostRuntime) -> Result<(), NoMemory> {
-    let none = uncovered(&rt, rt.alloc(), &[], room(), 1, &OpenGate)?;
-    assert!(rt;
-        are(
-            &none,
-            &[
-                (0, 0, 0, 19, 0),
-                (1, 19, 0, 19, 19),
-                (2, 0, 19, 19, 19),
-                (3, 0, 0, 0, 19)
-            ]
-        )
-    );
     let outside = [sum([spot(30, 30), spot(33, 30), spot(30, 33)], ROBOT)];
-    let sides = uncovered(&rt, rt.alloc(), &outside, room(), 1, &OpenGate)?;
-    assert!(rt;
-        are(
-            &sides,
-            &[
-                (6, 0, 0, 19, 0),
-                (7, 19, 0, 19, 19),
-                (8, 0, 19, 19, 19),
-                (9, 0, 0, 0, 19)
-            ]
-        )
-    );
-    Ok(())
+    leaves(&rt, rt.alloc(), &outside, 1, SIDES_AFTER_ONE)
 }
 
 #[test]
@@ -152,61 +172,75 @@ fn ends_where_an_edge_meets_a_side(rt: HostRuntime) -> Result<(), NoMemory> {
     let third = Point::new(31, 0, 3).expect(&rt, "(31/3, 0)");
     assert_eq!(rt; pieces.list.len(), 8);
     let edge = pieces.list[0];
-    assert!(rt; edge.edge == 3 && edge.a == Point::of(spot(9, 10)) && edge.b == third);
+    assert!(rt; edge.edge == 3 && is_at(edge.a, 9, 10) && edge.b == third);
     let side = pieces.list[4];
-    assert!(rt; side.edge == 6 && side.a == third && side.b == Point::of(spot(19, 0)));
+    assert!(rt; side.edge == 6 && side.a == third && is_at(side.b, 19, 0));
     Ok(())
 }
+
+const OF_EQUAL_SUMS: &str = "0 4 5 5 4
+1 5 4 9 4
+2 9 4 9 5
+3 5 9 9 5
+4 4 9 5 9
+5 4 5 4 9
+6 4 5 5 4
+7 5 4 9 4
+8 9 4 9 5
+9 5 9 9 5
+10 4 9 5 9
+11 4 5 4 9
+12 0 0 19 0
+13 19 0 19 19
+14 0 19 19 19
+15 0 0 0 19";
 
 #[test]
 fn leaves_the_edges_of_equal_sums(rt: HostRuntime) -> Result<(), NoMemory> {
-    let pieces = uncovered(&rt, rt.alloc(), &[left(), left()], room(), 2, &OpenGate)?;
-    let want = [
-        (0, 4, 5, 5, 4),
-        (1, 5, 4, 9, 4),
-        (2, 9, 4, 9, 5),
-        (3, 5, 9, 9, 5),
-        (4, 4, 9, 5, 9),
-        (5, 4, 5, 4, 9),
-        (6, 4, 5, 5, 4),
-        (7, 5, 4, 9, 4),
-        (8, 9, 4, 9, 5),
-        (9, 5, 9, 9, 5),
-        (10, 4, 9, 5, 9),
-        (11, 4, 5, 4, 9),
-        (12, 0, 0, 19, 0),
-        (13, 19, 0, 19, 19),
-        (14, 0, 19, 19, 19),
-        (15, 0, 0, 0, 19),
-    ];
-    assert!(rt; are(&pieces, &want));
-    Ok(())
+    leaves(&rt, rt.alloc(), &[left(), left()], 2, OF_EQUAL_SUMS)
 }
+
+const ON_ONE_LINE: &str = "0 4 5 5 4
+1 5 4 9 4
+2 9 4 9 4
+3 5 9 7 7
+4 4 9 5 9
+5 4 5 4 9
+6 8 4 8 4
+7 8 4 12 4
+8 12 4 12 5
+9 8 9 12 5
+10 7 9 8 9
+11 7 7 7 9
+12 0 0 19 0
+13 19 0 19 19
+14 0 19 19 19
+15 0 0 0 19";
 
 #[test]
 fn leaves_what_edges_on_one_line_have_in_common(rt: HostRuntime) -> Result<(), NoMemory> {
-    let pieces = uncovered(&rt, rt.alloc(), &[left(), right()], room(), 2, &OpenGate)?;
-    let want = [
-        (0, 4, 5, 5, 4),
-        (1, 5, 4, 9, 4),
-        (2, 9, 4, 9, 4),
-        (3, 5, 9, 7, 7),
-        (4, 4, 9, 5, 9),
-        (5, 4, 5, 4, 9),
-        (6, 8, 4, 8, 4),
-        (7, 8, 4, 12, 4),
-        (8, 12, 4, 12, 5),
-        (9, 8, 9, 12, 5),
-        (10, 7, 9, 8, 9),
-        (11, 7, 7, 7, 9),
-        (12, 0, 0, 19, 0),
-        (13, 19, 0, 19, 19),
-        (14, 0, 19, 19, 19),
-        (15, 0, 0, 0, 19),
-    ];
-    assert!(rt; are(&pieces, &want));
-    Ok(())
+    leaves(&rt, rt.alloc(), &[left(), right()], 2, ON_ONE_LINE)
 }
+
+const OF_TWO_BARS: &str = "1 0 10 9 10
+2 9 10 9 11
+3 9 11 9 11
+7 9 10 9 10
+8 9 10 9 13
+9 0 13 9 13
+10 9 8 10 7
+11 10 7 19 7
+13 10 10 10 10
+14 9 10 10 10
+15 9 8 9 10
+16 9 10 9 10
+19 9 10 19 10
+20 0 0 19 0
+21 19 0 19 7
+21 19 10 19 19
+22 0 19 19 19
+23 0 0 0 10
+23 0 13 0 19";
 
 // The bars above and below meet in (9,10) alone.
 #[test]
@@ -217,31 +251,21 @@ fn leaves_the_point_in_which_two_bars_meet(rt: HostRuntime) -> Result<(), NoMemo
         sum([spot(10, 8), spot(25, 8), spot(10, 10)], ROBOT),
         sum([spot(10, 10), spot(25, 8), spot(25, 10)], ROBOT),
     ];
-    let pieces = uncovered(&rt, rt.alloc(), &sums, room(), 2, &OpenGate)?;
-    let want = [
-        (1, 0, 10, 9, 10),
-        (2, 9, 10, 9, 11),
-        (3, 9, 11, 9, 11),
-        (7, 9, 10, 9, 10),
-        (8, 9, 10, 9, 13),
-        (9, 0, 13, 9, 13),
-        (10, 9, 8, 10, 7),
-        (11, 10, 7, 19, 7),
-        (13, 10, 10, 10, 10),
-        (14, 9, 10, 10, 10),
-        (15, 9, 8, 9, 10),
-        (16, 9, 10, 9, 10),
-        (19, 9, 10, 19, 10),
-        (20, 0, 0, 19, 0),
-        (21, 19, 0, 19, 7),
-        (21, 19, 10, 19, 19),
-        (22, 0, 19, 19, 19),
-        (23, 0, 0, 0, 10),
-        (23, 0, 13, 0, 19),
-    ];
-    assert!(rt; are(&pieces, &want));
-    Ok(())
+    leaves(&rt, rt.alloc(), &sums, 2, OF_TWO_BARS)
 }
+
+const BETWEEN_TWO_PARTS: &str = "2 8 0 8 4
+3 7 4 8 4
+4 5 0 7 4
+8 9 4 11 0
+9 8 4 9 4
+10 8 0 8 4
+11 0 0 5 0
+11 8 0 8 0
+11 11 0 19 0
+12 19 0 19 19
+13 0 19 19 19
+14 0 0 0 19";
 
 // The parts of the bottom that the two cover meet in (8,0).
 #[test]
@@ -250,24 +274,22 @@ fn leaves_a_point_between_two_covered_parts(rt: HostRuntime) -> Result<(), NoMem
         sum([spot(4, -4), spot(8, -4), spot(8, 4)], ROBOT),
         sum([spot(9, -4), spot(13, -4), spot(9, 4)], ROBOT),
     ];
-    let pieces = uncovered(&rt, rt.alloc(), &sums, room(), 1, &OpenGate)?;
-    let want = [
-        (2, 8, 0, 8, 4),
-        (3, 7, 4, 8, 4),
-        (4, 5, 0, 7, 4),
-        (8, 9, 4, 11, 0),
-        (9, 8, 4, 9, 4),
-        (10, 8, 0, 8, 4),
-        (11, 0, 0, 5, 0),
-        (11, 8, 0, 8, 0),
-        (11, 11, 0, 19, 0),
-        (12, 19, 0, 19, 19),
-        (13, 0, 19, 19, 19),
-        (14, 0, 0, 0, 19),
-    ];
-    assert!(rt; are(&pieces, &want));
-    Ok(())
+    leaves(&rt, rt.alloc(), &sums, 1, BETWEEN_TWO_PARTS)
 }
+
+const COVERED_BY_A_THIRD: &str = "2 8 3 8 4
+3 7 4 8 4
+4 5 0 7 4
+8 9 4 11 0
+9 8 4 9 4
+10 8 3 8 4
+15 8 3 8 3
+16 8 3 8 3
+17 0 0 5 0
+17 11 0 19 0
+18 19 0 19 19
+19 0 19 19 19
+20 0 0 0 19";
 
 // A third sum covers (8,0).
 #[test]
@@ -277,25 +299,23 @@ fn leaves_no_point_that_a_third_sum_covers(rt: HostRuntime) -> Result<(), NoMemo
         sum([spot(9, -4), spot(13, -4), spot(9, 4)], ROBOT),
         sum([spot(6, -3), spot(11, -3), spot(9, 3)], ROBOT),
     ];
-    let pieces = uncovered(&rt, rt.alloc(), &sums, room(), 1, &OpenGate)?;
-    let want = [
-        (2, 8, 3, 8, 4),
-        (3, 7, 4, 8, 4),
-        (4, 5, 0, 7, 4),
-        (8, 9, 4, 11, 0),
-        (9, 8, 4, 9, 4),
-        (10, 8, 3, 8, 4),
-        (15, 8, 3, 8, 3),
-        (16, 8, 3, 8, 3),
-        (17, 0, 0, 5, 0),
-        (17, 11, 0, 19, 0),
-        (18, 19, 0, 19, 19),
-        (19, 0, 19, 19, 19),
-        (20, 0, 0, 0, 19),
-    ];
-    assert!(rt; are(&pieces, &want));
-    Ok(())
+    leaves(&rt, rt.alloc(), &sums, 1, COVERED_BY_A_THIRD)
 }
+
+const WHERE_THE_ROOM_ENDS: &str = "2 8 0 8 0
+3 7 4 7 4
+4 5 0 7 4
+5 8 0 8 0
+6 8 0 14 0
+7 14 0 14 1
+8 8 9 14 1
+9 7 9 8 9
+10 7 4 7 9
+11 0 0 5 0
+11 8 0 19 0
+12 19 0 19 19
+13 0 19 19 19
+14 0 0 0 19";
 
 // Of the right edge of the first sum (8,0) alone is left, where it comes into the room.
 #[test]
@@ -304,43 +324,32 @@ fn leaves_a_point_where_the_part_in_the_room_ends(rt: HostRuntime) -> Result<(),
         sum([spot(4, -4), spot(8, -4), spot(8, 4)], ROBOT),
         sum([spot(8, 1), spot(14, 1), spot(8, 9)], ROBOT),
     ];
-    let pieces = uncovered(&rt, rt.alloc(), &sums, room(), 1, &OpenGate)?;
-    let want = [
-        (2, 8, 0, 8, 0),
-        (3, 7, 4, 7, 4),
-        (4, 5, 0, 7, 4),
-        (5, 8, 0, 8, 0),
-        (6, 8, 0, 14, 0),
-        (7, 14, 0, 14, 1),
-        (8, 8, 9, 14, 1),
-        (9, 7, 9, 8, 9),
-        (10, 7, 4, 7, 9),
-        (11, 0, 0, 5, 0),
-        (11, 8, 0, 19, 0),
-        (12, 19, 0, 19, 19),
-        (13, 0, 19, 19, 19),
-        (14, 0, 0, 0, 19),
-    ];
-    assert!(rt; are(&pieces, &want));
-    Ok(())
+    leaves(&rt, rt.alloc(), &sums, 1, WHERE_THE_ROOM_ENDS)
 }
+
+const IN_A_CORNER: &str = "0 19 19 19 19
+1 19 19 19 19
+6 0 0 19 0
+7 19 0 19 19
+8 0 19 19 19
+9 0 0 0 19";
 
 // A sum outside the room has a vertex in its corner.
 #[test]
 fn leaves_the_corner_of_the_room_that_a_sum_touches(rt: HostRuntime) -> Result<(), NoMemory> {
     let sums = [sum([spot(19, 20), spot(22, 20), spot(19, 23)], ROBOT)];
-    let pieces = uncovered(&rt, rt.alloc(), &sums, room(), 1, &OpenGate)?;
-    let want = [
-        (0, 19, 19, 19, 19),
-        (1, 19, 19, 19, 19),
-        (6, 0, 0, 19, 0),
-        (7, 19, 0, 19, 19),
-        (8, 0, 19, 19, 19),
-        (9, 0, 0, 0, 19),
-    ];
-    assert!(rt; are(&pieces, &want));
-    Ok(())
+    leaves(&rt, rt.alloc(), &sums, 1, IN_A_CORNER)
 }
+
+const FARTHEST: &str = "0 -2045 0 0 -2045
+1 0 -2045 2046 -2045
+2 2046 -2045 2046 2046
+3 1 2046 2046 2046
+4 -2045 0 1 2046
+5 -2046 -2046 2046 -2046
+6 2046 -2046 2046 2046
+7 -2046 2046 2046 2046
+8 -2046 -2046 -2046 2046";
 
 #[test]
 fn takes_the_greatest_coordinates(rt: HostRuntime) -> Result<(), NoMemory> {
@@ -359,30 +368,6 @@ fn takes_the_greatest_coordinates(rt: HostRuntime) -> Result<(), NoMemory> {
         Spot { x: -1023, y: 1022 },
     ];
     let pieces = uncovered(&rt, rt.alloc(), &[sum(obstacle, robot)], room, 2, &OpenGate)?;
-    let want = [
-        (0, Spot { x: -2045, y: 0 }, Spot { x: 0, y: -2045 }),
-        (1, Spot { x: 0, y: -2045 }, Spot { x: 2046, y: -2045 }),
-        (2, Spot { x: 2046, y: -2045 }, Spot { x: 2046, y: 2046 }),
-        (3, Spot { x: 1, y: 2046 }, Spot { x: 2046, y: 2046 }),
-        (4, Spot { x: -2045, y: 0 }, Spot { x: 1, y: 2046 }),
-        (5, Spot { x: -2046, y: -2046 }, Spot { x: 2046, y: -2046 }),
-        (6, Spot { x: 2046, y: -2046 }, Spot { x: 2046, y: 2046 }),
-        (7, Spot { x: -2046, y: 2046 }, Spot { x: 2046, y: 2046 }),
-        (8, Spot { x: -2046, y: -2046 }, Spot { x: -2046, y: 2046 }),
-    ];
-    assert_eq!(rt; pieces.list.len(), want.len());
-    for i in 0..want.len() {
-        let (edge, a, b) = want[i];
-        let piece = pieces.list[i];
-        assert_eq!(rt;
-            (piece.edge, piece.a.x(), piece.a.y()),
-            (edge, i64::from(a.x), i64::from(a.y))
-        );
-        assert_eq!(rt;
-            (piece.b.x(), piece.b.y()),
-            (i64::from(b.x), i64::from(b.y))
-        );
-        assert_eq!(rt; (piece.a.w(), piece.b.w()), (1, 1));
-    }
+    must_be(&rt, &pieces.list, FARTHEST);
     Ok(())
 }

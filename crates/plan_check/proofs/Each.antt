@@ -1,11 +1,14 @@
--- What some sum has, by its number.
-use Rattle.std.proofs.Common.{ℕ, ◌<◌, List, [], length, get_or, Any, sym, ◌∙◌, subst}
+-- What some sum has, by its number; and a test that failed.
+use Rattle.std.proofs.Common.{◌≡◌, true, false, ℕ, ◌<◌, List, [], length, get_or, Any, sym, ◌∙◌, subst}
 use Rattle.std.proofs.lemmas.List.{get_or_default}
 use Rattle.plan_spec.specs.Vector.{Vector}
 use Rattle.plan_plane.proofs.Lists.{any_map, any_to_map}
 use Rattle.plan_grid.specs.declared.spot.Spot.{Spot}
 use Rattle.plan_grid.specs.Spot.{spots_seen}
 use Rattle.plan_convex.specs.Piece.{sums_seen}
+
+pub untrue : ¬ (false ≡ true)
+untrue e = cc
 
 module _ (P : List Vector → Type 0) (sums : List (List Spot)) where
   pub some_sum : (k : ℕ) (d : List Spot) → k < length sums → P (spots_seen (get_or sums k d)) → Any P (sums_seen sums)

@@ -1,5 +1,5 @@
--- A convex polygon holds no point that is strictly beyond a side of its box.
-use Rattle.std.proofs.Common.{inl, inr, ◌≤◌, List, length, All, arith}
+-- A convex polygon holds no point that is strictly beyond a side of its box; and a test that failed.
+use Rattle.std.proofs.Common.{◌≡◌, true, false, inl, inr, ◌≤◌, List, length, All, arith}
 use Rattle.plan_exact.proofs.Laws.{linear}
 use Rattle.plan_exact.proofs.Signs.{mul_one}
 use Rattle.plan_spec.specs.Vector.{Vector}
@@ -10,6 +10,9 @@ use Rattle.plan_grid.specs.Frame.{frame_seen, IsPast}
 use Rattle.plan_grid.specs.Spot.{spots_seen}
 use Rattle.plan_convex.specs.Boxes.{Encloses}
 use Rattle.plan_convex.proofs.InBox.{IsIn, inside_is_in}
+
+pub untrue : ¬ (false ≡ true)
+untrue e = cc
 
 pub past : (polygon : List Spot) (box : Frame) (z : Vector) → IsConvex (spots_seen polygon) → 3 ≤ length polygon → All (Encloses box) polygon → IsPast (frame_seen box) z → ¬ (Inside (spots_seen polygon) z)
 past polygon box z convex three boxed h inside = by h

@@ -8,6 +8,7 @@ use Rattle.plan_cross.specs.Segment.{segment_seen}
 use Rattle.plan_cross.proofs.First.{some_at, if_at, each_of, first_weaker}
 use Rattle.plan_convex.specs.Piece.{sums_seen}
 use Rattle.plan_check.specs.Touching.{IsProperAndTight}
+use Rattle.plan_check.proofs.Each.{untrue}
 use Rattle.plan_check.proofs.chain.first_unsound.Goals as goal
 
 here : (ss : List Segment) (k : ℕ) (s : Segment) → k < length ss → s ≡ get_or ss k s → get_or (map segment_seen ss) k (segment_seen s) ≡ segment_seen s
@@ -35,7 +36,7 @@ returns-then-not-is_tight c s g =
     let tight = IsTight (sums_seen c.args.sums.now) (frame_seen c.args.room) in
     let long = length-map ss segment_seen in
     first_weaker (IsLoose tight) P (IsLoose tight) (IsSound tight) (map segment_seen ss) k (λ i d w h. h) (λ i d w h. (h.0.2, h.1)) (record {
-      bad = some_at (IsLoose tight) (map segment_seen ss) k (segment_seen t) (omega arith) (subst (IsLoose tight) (sym (here ss k t c.loop-k-test.true c.index-segments-k.is)) (λ h. let e = c.if-is_flat.ensures.flat.1 h in cc, λ h. let e = c.if-not-is_tight.ensures.1 h in cc));
+      bad = some_at (IsLoose tight) (map segment_seen ss) k (segment_seen t) (omega arith) (subst (IsLoose tight) (sym (here ss k t c.loop-k-test.true c.index-segments-k.is)) (λ h. untrue (c.if-is_flat.ensures.flat.1 h), λ h. untrue (c.if-not-is_tight.ensures.1 h)));
       earlier = c.loop-k.invariant;
     })
 
@@ -48,7 +49,7 @@ loop-k-preserved c =
     let long = length-map ss segment_seen in
     let points = c.if-is_flat.ensures.points in
     below_more (λ j. IfSome (slice_get (map segment_seen ss) j) P) k c.loop-k.invariant
-    (if_at P (map segment_seen ss) k (segment_seen t) (omega arith) (subst P (sym (here ss k t c.loop-k-test.true c.index-segments-k.is)) ((points.0, points.1, λ h. let e = c.if-is_flat.ensures.flat.1 h in cc), c.if-not-is_tight.ensures.0 refl)))
+    (if_at P (map segment_seen ss) k (segment_seen t) (omega arith) (subst P (sym (here ss k t c.loop-k-test.true c.index-segments-k.is)) ((points.0, points.1, λ h. untrue (c.if-is_flat.ensures.flat.1 h)), c.if-not-is_tight.ensures.0 refl)))
 
 pub returns : goal.returns
 returns c s g =

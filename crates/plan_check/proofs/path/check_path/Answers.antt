@@ -6,6 +6,7 @@ use Rattle.plan_spec.specs.Reply.{touches, IsFirstPathFault}
 use Rattle.plan_grid.specs.Frame.{frame_seen}
 use Rattle.plan_grid.specs.Spot.{spot_seen}
 use Rattle.plan_convex.specs.Piece.{sums_seen}
+use Rattle.plan_check.proofs.Each.{untrue}
 use Rattle.plan_check.proofs.PathFaults.{starts_at, ends_at, is_some, not_empty, clear, first_touching}
 use Rattle.plan_check.proofs.path.check_path.Goals as goal
 
@@ -16,7 +17,7 @@ returns-then-not-is_at c scene told =
     let p = c.index-points-0.result in
     let some = is_some ps c.if-is_empty.ensures in
     subst (λ l. (¬ (l ≡ [])) × ¬ (StartsAt s l)) (c.as_slice-points.ensures.value ∙ c.path.view_is)
-    (not_empty ps some, λ starts. let e = c.if-not-is_at.ensures.1 (subst (λ v. Same v s) (sym c.index-points-0.is) ((starts_at s p ps some).0 starts)) in cc)
+    (not_empty ps some, λ starts. untrue (c.if-not-is_at.ensures.1 (subst (λ v. Same v s) (sym c.index-points-0.is) ((starts_at s p ps some).0 starts))))
 
 pub returns-then-not-is_at-2 : goal.returns-then-not-is_at-2
 returns-then-not-is_at-2 c scene told =
@@ -28,7 +29,7 @@ returns-then-not-is_at-2 c scene told =
     let some = is_some ps c.if-is_empty.ensures in
     subst (λ l. StartsAt s l × ¬ (EndsAt g l)) (c.as_slice-points.ensures.value ∙ c.path.view_is) (
       (starts_at s p ps some).1 (subst (λ v. Same v s) c.index-points-0.is (c.if-not-is_at.ensures.0 refl)),
-      λ ends. let e = c.if-not-is_at-2.ensures.1 (subst (λ v. Same v g) (sym c.index-points-points.is) ((ends_at g q ps some).0 ends)) in cc,
+      λ ends. untrue (c.if-not-is_at-2.ensures.1 (subst (λ v. Same v g) (sym c.index-points-points.is) ((ends_at g q ps some).0 ends))),
     )
 
 pub returns-in-None : goal.returns-in-None

@@ -6,6 +6,7 @@ use Rattle.plan_spec.specs.Route.{legs}
 use Rattle.plan_grid.specs.Frame.{frame_seen}
 use Rattle.plan_convex.specs.Piece.{sums_seen}
 use Rattle.plan_check.specs.Touching.{LegTouches, LegRunsClear}
+use Rattle.plan_check.proofs.Each.{untrue}
 use Rattle.plan_check.proofs.Legs.{some_leg, if_leg, each_leg}
 use Rattle.plan_check.proofs.path.first_touching.Goals as goal
 use Rattle.plan_check.proofs.path.first_touching.Goals.{Then-touches, Else-touches}
@@ -34,7 +35,7 @@ loop-k-preserved c =
     let next : c.min.result ≡ min (k + 1) (length path - 1) = omega arith in
     let end : q ≡ get_or path (min (k + 1) (length path - 1)) p = c.index-path-min.is ∙ get_or_default path c.min.result q p (omega arith) ∙ ap (λ n. get_or path n p) next in
     below_more (λ j. IfSome (slice_get (legs path) j) P) k c.loop-k.invariant
-    (if_leg P path k p c.requires.some (omega arith) (subst P (ap₂ segment c.index-path-k.is end) (c.if-touches.ensures.points, λ h. let e = c.if-touches.ensures.touches.1 h in cc)))
+    (if_leg P path k p c.requires.some (omega arith) (subst P (ap₂ segment c.index-path-k.is end) (c.if-touches.ensures.points, λ h. untrue (c.if-touches.ensures.touches.1 h))))
 
 pub returns : goal.returns
 returns c = each_leg (LegRunsClear (sums_seen c.args.sums.now) (frame_seen c.args.room)) c.args.path.now c.requires.some (λ k within. c.loop-k.invariant k (omega arith))

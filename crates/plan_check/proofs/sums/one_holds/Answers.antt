@@ -4,7 +4,7 @@ use Rattle.std.proofs.lemmas.List.{get_or_default}
 use Rattle.plan_spec.specs.Vector.{Vector}
 use Rattle.plan_check.specs.Boxes.{HoldsBoth}
 use Rattle.plan_grid.specs.Spot.{spots_seen}
-use Rattle.plan_check.proofs.Each.{some_sum, no_sum}
+use Rattle.plan_check.proofs.Each.{untrue, some_sum, no_sum}
 use Rattle.plan_check.proofs.sums.one_holds.Goals as goal
 
 pub returns-then-holds_both : goal.returns-then-holds_both
@@ -19,9 +19,9 @@ loop-i-preserved c =
     let sums = c.args.sums.now in
     let i = c.loop-i.i in
     let here = c.index-sums-i.is ∙ get_or_default sums i c.index-sums-i.result [] c.loop-i-test.true in
-    below_more (λ k. ¬ (P (spots_seen (get_or sums k [])))) i c.loop-i.invariant (subst (λ sum. ¬ (P (spots_seen sum))) here (λ h. let e = c.if-holds_both.ensures.1 h in cc))
+    below_more (λ k. ¬ (P (spots_seen (get_or sums k [])))) i c.loop-i.invariant (subst (λ sum. ¬ (P (spots_seen sum))) here (λ h. untrue (c.if-holds_both.ensures.1 h)))
 
 pub returns : goal.returns
 returns c =
     let P = λ (vs : List Vector). HoldsBoth c.args.p.now c.args.q.now vs in
-    (λ e. absurd cc, λ some. absurd (no_sum P c.args.sums.now (λ k within. c.loop-i.invariant k (omega arith)) some))
+    (λ e. absurd (untrue e), λ some. absurd (no_sum P c.args.sums.now (λ k within. c.loop-i.invariant k (omega arith)) some))

@@ -5,12 +5,13 @@ use Rattle.plan_grid.specs.Spot.{spots_seen}
 use Rattle.plan_scene.specs.Scene.{sum_count}
 use Rattle.plan_scene.specs.Built.{IsKept}
 use Rattle.plan_scene.specs.Edits.{sums_with}
+use Rattle.plan_scene.proofs.Past.{untrue}
 use Rattle.plan_scene.proofs.Read.{same_count}
 use Rattle.plan_scene.proofs.scene.Scene.with.Goals as goal
 
 pub returns-then-len-eq64 : goal.returns-then-len-eq64
 returns-then-len-eq64 c = (
-  λ h. let e = c.if-has.ensures.1 h in cc,
+  λ h. untrue (c.if-has.ensures.1 h),
   subst (λ l. IsSimple (spots_seen l)) c.in-Ok.ensures.items c.in_ok-polygon.ensures.given_simple.simple,
   omega (arith, c.len.ensures, c.if-len-eq64.true, c.self.inside.obstacles.ok, ap (λ s. length s.obstacles) c.self.view_is),
 )
@@ -19,7 +20,7 @@ pub returns-then-count-gt512 : goal.returns-then-count-gt512
 returns-then-count-gt512 c =
     let k = subst (λ s. IsKept s c.self.inside.room c.self.inside.sums) c.self.view_is c.self.invariant in
     let other = c.if-len-eq64.false in (
-      λ h. let e = c.if-has.ensures.1 h in cc,
+      λ h. untrue (c.if-has.ensures.1 h),
       subst (λ l. IsSimple (spots_seen l)) c.in-Ok.ensures.items c.in_ok-polygon.ensures.given_simple.simple,
       omega (arith, k.is_scene.few, c.len.ensures, other, c.self.inside.obstacles.ok, ap (λ s. length s.obstacles) c.self.view_is),
       c.count_with-count.ensures,
