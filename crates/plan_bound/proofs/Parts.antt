@@ -10,17 +10,15 @@ use Rattle.plan_exact.proofs.Ring.{ring}
 use Rattle.plan_exact.proofs.RingVectors.{ring_vectors}
 use Rattle.plan_exact.proofs.Signs.{signs, zeros, mul_nonneg, nonneg_of_mul, le_of_lt}
 use Rattle.plan_spec.specs.Vector.{IsPoint, Same}
-use Rattle.plan_spec.specs.Segment.{On, segment, Segment, HasPoints}
+use Rattle.plan_spec.specs.Segment.{On, segment}
 use Rattle.plan_plane.proofs.Segment.Combination.{on_combination}
 use Rattle.plan_plane.proofs.Segment.Between.{Between, between, on}
-use Rattle.plan_plane.proofs.Segment.Same.{on_same}
 use Rattle.plan_spec.specs.Weights.{Weights, IsWeights, weighted}
 use Rattle.plan_grid.specs.Fraction.{Fraction}
 use Rattle.plan_convex.proofs.Fractions.{IsFraction, at_most_trans, at_most_or_less}
 use Rattle.plan_convex.specs.Parameter.{AtMost, Less, fraction_at, along, IsShare}
 use Rattle.plan_convex.specs.Part.{InClosed}
-use Rattle.plan_plane.proofs.Segment.Weights.{independent, weights_point, weights_on}
-use Rattle.plan_plane.proofs.Segment.Convexity.{convex}
+use Rattle.plan_plane.proofs.Segment.Weights.{independent, weights_point}
 
 -- ---- from the weights to the segment
 -- the variables of two fractions and weights: the numbers n0 d0 n1 d1 s t

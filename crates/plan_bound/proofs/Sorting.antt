@@ -1,5 +1,5 @@
 -- Parts in the order of where they begin: what the sort says, by cross products; and a sort changes nothing of what the parts cover.
-use Rattle.std.proofs.Common.{ℤ, ◌*ℤ◌, List, get_or, All, Any, arith}
+use Rattle.std.proofs.Common.{◌*ℤ◌, List, get_or, All, Any, arith}
 use Rattle.std.specs.List.Sorted.{IsPermutation, IsSortedByKey}
 use Rattle.std.specs.Ordering.{is_lt}
 use Rattle.std.proofs.lemmas.List.Sorted.{All-permutation, Contains-permutation, sorted_far, ranks_by, IsPermutation-sym}
