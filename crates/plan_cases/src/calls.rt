@@ -4,30 +4,44 @@ use plan_wire::{Sink, Source, SteadySink, SteadySource};
 use std::alloc::Global;
 use std::process::Abort;
 use std::sync::Wait;
-use std::test::Fail;
 use std::thread::Threads;
 
-/// Calls the planner, and gives its code and what it wrote, as `0 "valid\n"`.
-pub fn answer_to<R: Threads + Wait + Sync>(
+/// Compares what the planner tells of these bytes, called with words that are parted by bars.
+pub fn is_told<R: Threads + Wait + Sync + Abort>(
     rt: &R,
     alloc: Global,
-    words: &[String],
+    words: &str,
     bytes: &[u8],
-) -> Result<String, Fail> {
-    let mut source = SteadySource::new(bytes.to_vec(alloc)?);
-    answer_from(rt, alloc, words, &mut source)
+    expected: &str,
+    row: &str,
+) {
+    let bytes = bytes.to_vec(alloc).expect(rt, "memory");
+    let told = answer_from(rt, alloc, words, &mut SteadySource::new(bytes));
+    expect(rt, told, expected, row);
 }
 
-/// The same over a source.
-pub fn answer_from<R: Threads + Wait + Sync, S: Source>(
+/// Calls the planner over a source with words that are parted by bars, and gives its code and what it wrote, as
+/// `0 "valid\n"`.
+pub fn answer_from<R: Threads + Wait + Sync + Abort, S: Source>(
+    rt: &R,
+    alloc: Global,
+    words: &str,
+    source: &mut S,
+) -> String {
+    let words = words_of(rt, alloc, words);
+    answer_to(rt, alloc, words.as_slice(), source)
+}
+
+/// The same with these words.
+pub fn answer_to<R: Threads + Wait + Sync + Abort, S: Source>(
     rt: &R,
     alloc: Global,
     words: &[String],
     source: &mut S,
-) -> Result<String, Fail> {
-    let mut sink = SteadySink::new(alloc, 10_000)?;
+) -> String {
+    let mut sink = SteadySink::new(alloc, 10_000).expect(rt, "memory");
     let code = code_of(rt, alloc, words, source, &mut sink);
-    written(alloc, code, sink.bytes())
+    written(rt, alloc, code, sink.bytes())
 }
 
 /// Calls the planner, and gives its code.
@@ -43,40 +57,44 @@ pub fn code_of<R: Threads + Wait + Sync, S: Source, K: Sink>(
 }
 
 /// A code and what was written, as `0 "valid\n"`.
-pub fn written(alloc: Global, code: u8, bytes: &[u8]) -> Result<String, Fail> {
-    let line = str::from_utf8(bytes)?;
-    Ok(format!(in alloc; "{code} {line:?}")?)
+pub fn written(rt: &impl Abort, alloc: Global, code: u8, bytes: &[u8]) -> String {
+    let line = str::from_utf8(bytes).ok().expect(rt, "a text");
+    format!(in alloc; "{code} {line:?}").expect(rt, "memory")
 }
 
 /// The words of a text, which are parted by bars.
-pub fn words_of(alloc: Global, text: &str) -> Result<Vec<String>, Fail> {
+pub fn words_of(rt: &impl Abort, alloc: Global, text: &str) -> Vec<String> {
     let mut words = Vec::new(alloc);
     for word in text.split('|') {
-        words.push(String::from_str(alloc, word)?)?;
+        let word = String::from_str(alloc, word).expect(rt, "memory");
+        words.push(word).expect(rt, "memory");
     }
-    Ok(words)
+    words
 }
 
 /// The first column of a row, and what is behind it.
-pub fn column(row: &str) -> Result<(&str, &str), Fail> {
-    before(row, ' ')
+pub fn column<'a>(rt: &impl Abort, row: &'a str) -> (&'a str, &'a str) {
+    before(rt, row, ' ')
 }
 
 /// What is before the mark, and what is behind it.
-pub fn before(row: &str, mark: char) -> Result<(&str, &str), Fail> {
-    match row.split_once(mark) {
-        Some(columns) => Ok(columns),
-        None => Err(Fail::from("a column is missing")),
-    }
+pub fn before<'a>(rt: &impl Abort, row: &'a str, mark: char) -> (&'a str, &'a str) {
+    row.split_once(mark).expect(rt, "a column is missing")
 }
 
 /// The number in the first column of a row, and what is behind it.
-pub fn number(row: &str) -> Result<(u32, &str), Fail> {
-    let (text, rest) = column(row)?;
-    Ok((text.parse::<u32>()?, rest))
+pub fn number<'a>(rt: &impl Abort, row: &'a str) -> (u32, &'a str) {
+    let (text, rest) = column(rt, row);
+    let number = text.parse::<u32>().ok().expect(rt, "a number");
+    (number, rest)
 }
 
 /// Compares what was told with the row's last columns.
-pub fn expect(rt: &impl Abort, told: &String, expected: &str, row: &str) {
-    assert_eq!(rt; told.as_str(), expected, "{row}");
+pub fn expect(rt: &impl Abort, told: String, expected: &str, row: &str) {
+    assert!(rt; told.as_str() == expected, "{row}: {told}");
+}
+
+/// Adds to a text.
+pub fn push(rt: &impl Abort, text: &mut String, more: &str) {
+    text.push_str(more).expect(rt, "memory");
 }

@@ -1,7 +1,24 @@
 use crate::calls::{answer_from, code_of, column, expect, number, words_of, written};
 use crate::documents::one_point;
 use plan_wire::{MemorySink, MemorySource};
-use std::test::Fail;
+use std::alloc::Global;
+use std::process::Abort;
+use std::sync::Wait;
+use std::thread::Threads;
+
+/// A source of this document, which gives at most `piece` bytes a call; the calls of these numbers fail.
+pub fn source_of(
+    rt: &impl Abort,
+    alloc: Global,
+    text: &str,
+    piece: u32,
+    fails: &[u32],
+) -> MemorySource {
+    assert!(rt; piece > 0);
+    let bytes = text.as_bytes().to_vec(alloc).expect(rt, "memory");
+    let fails = fails.to_vec(alloc).expect(rt, "memory");
+    MemorySource::new(bytes, piece, fails)
+}
 
 /// The most bytes a call of the source, the call that fails, and what is told of the document of 166 bytes.
 const SOURCES: &str = r#"1000 1 3 ""
@@ -15,22 +32,21 @@ const SOURCES: &str = r#"1000 1 3 ""
 1 167 3 ""
 1 168 0 "valid\n""#;
 
+// Compares what is told over a source that fails.
+fn is_read<R: Threads + Wait + Sync + Abort>(rt: &R, alloc: Global, row: &str) {
+    let (piece, rest) = number(rt, row);
+    let (call, expected) = number(rt, rest);
+    let text = one_point(rt, alloc);
+    let mut source = source_of(rt, alloc, text.as_str(), piece, &[call]);
+    let told = answer_from(rt, alloc, "check", &mut source);
+    expect(rt, told, expected, row);
+}
+
 #[test]
-fn a_source_that_fails_before_its_end_is_a_read_fault(rt: HostRuntime) -> Result<(), Fail> {
-    let alloc = rt.alloc();
-    let text = one_point(alloc)?;
-    let words = words_of(alloc, "check")?;
+fn a_source_that_fails_before_its_end_is_a_read_fault(rt: HostRuntime) {
     for row in SOURCES.lines() {
-        let (piece, rest) = number(row)?;
-        let (call, expected) = number(rest)?;
-        if piece > 0 {
-            let bytes = text.as_bytes().to_vec(alloc)?;
-            let mut source = MemorySource::new(bytes, piece, vec![in alloc; call]?);
-            let told = answer_from(&rt, alloc, words.as_slice(), &mut source)?;
-            expect(&rt, &told, expected, row);
-        }
+        is_read(&rt, rt.alloc(), row);
     }
-    Ok(())
 }
 
 /// The words, the sink's room, the most bytes a call, the call that fails, and what is told.
@@ -49,24 +65,42 @@ session|3 100 1 1000 2 "refused: form $.rounds\n"
 chek 100 100 1 4 ""
 chek 6 100 1000 4 "usage:""#;
 
+/// A sink of this room, which takes at most `piece` bytes a call; the call of this number fails.
+pub fn sink_of(rt: &impl Abort, alloc: Global, room: u32, piece: u32, call: u32) -> MemorySink {
+    assert!(rt; piece > 0);
+    let fails = [call].to_vec(alloc).expect(rt, "memory");
+    MemorySink::new(alloc, room, piece, fails).expect(rt, "memory")
+}
+
+/// What is told of this document into a sink.
+pub fn told_into<R: Threads + Wait + Sync + Abort>(
+    rt: &R,
+    alloc: Global,
+    words: &str,
+    text: &str,
+    sink: &mut MemorySink,
+) -> String {
+    let mut source = source_of(rt, alloc, text, 1000, &[]);
+    let words = words_of(rt, alloc, words);
+    let code = code_of(rt, alloc, words.as_slice(), &mut source, sink);
+    written(rt, alloc, code, sink.bytes())
+}
+
+// Compares what is told into a sink that fails.
+fn is_put<R: Threads + Wait + Sync + Abort>(rt: &R, alloc: Global, row: &str) {
+    let (words, rest) = column(rt, row);
+    let (room, rest) = number(rt, rest);
+    let (piece, rest) = number(rt, rest);
+    let (call, expected) = number(rt, rest);
+    let mut sink = sink_of(rt, alloc, room, piece, call);
+    let text = one_point(rt, alloc);
+    let told = told_into(rt, alloc, words, text.as_str(), &mut sink);
+    expect(rt, told, expected, row);
+}
+
 #[test]
-fn a_sink_that_fails_leaves_a_front_of_the_line(rt: HostRuntime) -> Result<(), Fail> {
-    let alloc = rt.alloc();
-    let text = one_point(alloc)?;
+fn a_sink_that_fails_leaves_a_front_of_the_line(rt: HostRuntime) {
     for row in SINKS.lines() {
-        let (words, rest) = column(row)?;
-        let (room, rest) = number(rest)?;
-        let (piece, rest) = number(rest)?;
-        let (call, expected) = number(rest)?;
-        if piece > 0 {
-            let words = words_of(alloc, words)?;
-            let bytes = text.as_bytes().to_vec(alloc)?;
-            let mut source = MemorySource::new(bytes, 1000, Vec::new(alloc));
-            let mut sink = MemorySink::new(alloc, room, piece, vec![in alloc; call]?)?;
-            let code = code_of(&rt, alloc, words.as_slice(), &mut source, &mut sink);
-            let told = written(alloc, code, sink.bytes())?;
-            expect(&rt, &told, expected, row);
-        }
+        is_put(&rt, rt.alloc(), row);
     }
-    Ok(())
 }

@@ -2,33 +2,29 @@ ghost use Rattle.std.specs.Prelude.{◌≡◌, ◌<◌, IfOk, length};
 ghost use Rattle.plan_grid.specs.Spot.{IsWithin};
 ghost use Rattle.plan_slab.specs.Subdivision.{regions_of};
 
-use crate::calls::{column, expect, number};
+use crate::calls::{column, expect, number, push};
 use crate::scenes::{BAR, FRAME, GAP, RING, SPIKES, TALL_BAR, scene_of, slabs_of};
 use plan_cross::Segment;
 use plan_grid::{MOST_COORDINATE, Point, Spot};
 use plan_map::{Map, Region};
 use plan_ring::ring;
 use plan_slab::{Lot, Slabs};
-use std::alloc::{AllocError, Global};
+use std::alloc::Global;
 use std::process::Abort;
-use std::test::Fail;
 use std::thread::Threads;
 
 // The map of the corner robot among obstacles.
-fn map_of<R: Threads + Sync>(rt: &R, alloc: Global, obstacles: &str) -> Result<Map, Fail> {
-    let scene = scene_of(alloc, FRAME, obstacles)?;
-    let slabs = slabs_of(rt, alloc, &scene, 4)?;
-    Ok(Map::of(slabs))
+fn map_of<R: Threads + Sync + Abort>(rt: &R, alloc: Global, obstacles: &str) -> Map {
+    let scene = scene_of(rt, alloc, FRAME, obstacles);
+    Map::of(slabs_of(rt, alloc, &scene, 4))
 }
 
-// The region of that number, where the map has so many.
-fn region_of(map: &Map, number: u32) -> Result<Region, Fail>
-    ensures { IfOk result (λ r. r.number < length (regions_of map.now)) }
+// The region of that number, of which the map has so many.
+fn region_of(rt: &impl Abort, map: &Map, number: u32) -> Region
+    ensures { result.number < length (regions_of map.now) }
 {
-    if number < map.slabs().regions() {
-        return Ok(Region { number });
-    }
-    Err(Fail::from("there is no such region"))
+    assert!(rt; number < map.slabs().regions());
+    Region { number }
 }
 
 fn spot(x: i8, y: i8) -> Spot
@@ -84,54 +80,52 @@ cell 6 0: 22 23
 ";
 
 #[test]
-fn cells_and_walls_beside_each_other_are_neighbours(rt: HostRuntime) -> Result<(), Fail> {
+fn cells_and_walls_beside_each_other_are_neighbours(rt: HostRuntime) {
     let alloc = rt.alloc();
-    are_beside(&rt, alloc, "[]", "cell 0 0:\n")?;
-    are_beside(&rt, alloc, BAR, REGIONS_BY_THE_BAR)?;
-    are_beside(&rt, alloc, TALL_BAR, "cell 0 0:\ncell 2 0:\n")?;
-    are_beside(&rt, alloc, GAP, REGIONS_BY_THE_GAP)?;
-    are_beside(&rt, alloc, RING, REGIONS_BY_THE_RING)
+    are_beside(&rt, alloc, "[]", "cell 0 0:\n");
+    are_beside(&rt, alloc, BAR, REGIONS_BY_THE_BAR);
+    are_beside(&rt, alloc, TALL_BAR, "cell 0 0:\ncell 2 0:\n");
+    are_beside(&rt, alloc, GAP, REGIONS_BY_THE_GAP);
+    are_beside(&rt, alloc, RING, REGIONS_BY_THE_RING);
 }
 
 // Compares the regions, each with its neighbours.
-fn are_beside<R: Threads + Sync + Abort>(
-    rt: &R,
-    alloc: Global,
-    obstacles: &str,
-    expected: &str,
-) -> Result<(), Fail> {
-    let map = map_of(rt, alloc, obstacles)?;
-    let told = neighbours(alloc, map.slabs())?;
-    expect(rt, &told, expected, obstacles);
-    Ok(())
+fn are_beside<R: Threads + Sync + Abort>(rt: &R, alloc: Global, obstacles: &str, expected: &str) {
+    let map = map_of(rt, alloc, obstacles);
+    let told = neighbours(rt, alloc, map.slabs());
+    expect(rt, told, expected, obstacles);
 }
 
 // The regions by number, each with its neighbours.
-fn neighbours(alloc: Global, slabs: &Slabs) -> Result<String, AllocError> {
+fn neighbours(rt: &impl Abort, alloc: Global, slabs: &Slabs) -> String {
     let mut text = String::new(alloc);
     for region in 0..slabs.regions() {
-        let name = name_of(alloc, slabs.lot_of(region))?;
-        text.push_str(name.as_str())?;
+        push_name(rt, alloc, &mut text, slabs.lot_of(region));
         for neighbour in slabs.left_of(region) {
-            push_number(alloc, &mut text, neighbour)?;
+            push_number(rt, alloc, &mut text, neighbour);
         }
         for neighbour in slabs.right_of(region) {
-            push_number(alloc, &mut text, neighbour)?;
+            push_number(rt, alloc, &mut text, neighbour);
         }
-        text.push_str("\n")?;
+        push(rt, &mut text, "\n");
     }
-    Ok(text)
+    text
 }
 
-fn push_number(alloc: Global, text: &mut String, number: u32) -> Result<(), AllocError> {
-    let more = format!(in alloc; " {number}")?;
-    text.push_str(more.as_str())
+fn push_number(rt: &impl Abort, alloc: Global, text: &mut String, number: u32) {
+    let more = format!(in alloc; " {number}").expect(rt, "memory");
+    push(rt, text, more.as_str());
 }
 
-fn name_of(alloc: Global, lot: Lot) -> Result<String, AllocError> {
+fn push_name(rt: &impl Abort, alloc: Global, text: &mut String, lot: Lot) {
+    let name = name_of(rt, alloc, lot);
+    push(rt, text, name.as_str());
+}
+
+fn name_of(rt: &impl Abort, alloc: Global, lot: Lot) -> String {
     match lot {
-        Lot::Cell { slab, at } => format!(in alloc; "cell {slab} {at}:"),
-        Lot::Wall { line, at } => format!(in alloc; "wall {line} {at}:"),
+        Lot::Cell { slab, at } => format!(in alloc; "cell {slab} {at}:").expect(rt, "memory"),
+        Lot::Wall { line, at } => format!(in alloc; "wall {line} {at}:").expect(rt, "memory"),
     }
 }
 
@@ -181,37 +175,39 @@ const SPOTS_BY_THE_SPIKES: &str = "9 3 6
 3 11 none";
 
 #[test]
-fn a_spot_is_located_in_its_region(rt: HostRuntime) -> Result<(), Fail> {
+fn a_spot_is_located_in_its_region(rt: HostRuntime) {
     let alloc = rt.alloc();
-    are_located(&rt, alloc, BAR, SPOTS_BY_THE_BAR)?;
-    are_located(&rt, alloc, SPIKES, SPOTS_BY_THE_SPIKES)
+    are_located(&rt, alloc, BAR, SPOTS_BY_THE_BAR);
+    are_located(&rt, alloc, SPIKES, SPOTS_BY_THE_SPIKES);
 }
 
 // Compares the region of each row's spot.
-fn are_located<R: Threads + Sync + Abort>(
-    rt: &R,
-    alloc: Global,
-    obstacles: &str,
-    table: &str,
-) -> Result<(), Fail> {
-    let map = map_of(rt, alloc, obstacles)?;
+fn are_located<R: Threads + Sync + Abort>(rt: &R, alloc: Global, obstacles: &str, table: &str) {
+    let map = map_of(rt, alloc, obstacles);
     for row in table.lines() {
-        let (x, rest) = column(row)?;
-        let (y, expected) = column(rest)?;
-        let spot = spot(x.parse::<i8>()?, y.parse::<i8>()?);
-        let told = located(alloc, &map, spot)?;
-        expect(rt, &told, expected, row);
+        is_located(rt, alloc, &map, row);
     }
-    Ok(())
+}
+
+fn is_located(rt: &impl Abort, alloc: Global, map: &Map, row: &str) {
+    let (x, rest) = coordinate(rt, row);
+    let (y, expected) = coordinate(rt, rest);
+    expect(rt, located(rt, alloc, map, spot(x, y)), expected, row);
+}
+
+// The coordinate in the first column of a row, and what is behind it.
+fn coordinate<'a>(rt: &impl Abort, row: &'a str) -> (i8, &'a str) {
+    let (text, rest) = column(rt, row);
+    (text.parse::<i8>().ok().expect(rt, "a coordinate"), rest)
 }
 
 // The number of the region of a spot.
-fn located(alloc: Global, map: &Map, spot: Spot) -> Result<String, AllocError>
+fn located(rt: &impl Abort, alloc: Global, map: &Map, spot: Spot) -> String
     requires { IsWithin MOST_COORDINATE spot }
 {
     match map.locate(spot) {
-        Some(Region { number }) => format!(in alloc; "{number}"),
-        None => String::from_str(alloc, "none"),
+        Some(Region { number }) => format!(in alloc; "{number}").expect(rt, "memory"),
+        None => String::from_str(alloc, "none").expect(rt, "memory"),
     }
 }
 
@@ -230,43 +226,42 @@ const WALKS_BY_THE_RING: &str = "0 24 [0, 1, 3, 5, 7, 9, 11, 14, 16, 18, 20, 22,
 0 12 none";
 
 #[test]
-fn a_walk_is_the_first_of_the_shortest(rt: HostRuntime) -> Result<(), Fail> {
+fn a_walk_is_the_first_of_the_shortest(rt: HostRuntime) {
     let alloc = rt.alloc();
-    are_walks(&rt, alloc, "[]", "0 0 [0]")?;
-    are_walks(&rt, alloc, BAR, WALKS_BY_THE_BAR)?;
-    are_walks(&rt, alloc, TALL_BAR, "0 1 none")?;
-    are_walks(&rt, alloc, GAP, WALKS_BY_THE_GAP)?;
-    are_walks(&rt, alloc, RING, WALKS_BY_THE_RING)
+    are_walks(&rt, alloc, "[]", "0 0 [0]");
+    are_walks(&rt, alloc, BAR, WALKS_BY_THE_BAR);
+    are_walks(&rt, alloc, TALL_BAR, "0 1 none");
+    are_walks(&rt, alloc, GAP, WALKS_BY_THE_GAP);
+    are_walks(&rt, alloc, RING, WALKS_BY_THE_RING);
 }
 
 // Compares the walk of each row, from one region to another.
-fn are_walks<R: Threads + Sync + Abort>(
-    rt: &R,
-    alloc: Global,
-    obstacles: &str,
-    table: &str,
-) -> Result<(), Fail> {
-    let map = map_of(rt, alloc, obstacles)?;
+fn are_walks<R: Threads + Sync + Abort>(rt: &R, alloc: Global, obstacles: &str, table: &str) {
+    let map = map_of(rt, alloc, obstacles);
     for row in table.lines() {
-        let (from, rest) = number(row)?;
-        let (to, expected) = number(rest)?;
-        let told = walk(alloc, &map, from, to)?;
-        expect(rt, &told, expected, row);
+        is_walk(rt, alloc, &map, row);
     }
-    Ok(())
+}
+
+fn is_walk(rt: &impl Abort, alloc: Global, map: &Map, row: &str) {
+    let (from, rest) = number(rt, row);
+    let (to, expected) = number(rt, rest);
+    expect(rt, walk(rt, alloc, map, from, to), expected, row);
 }
 
 // The walk from one region to another.
-fn walk(alloc: Global, map: &Map, from: u32, to: u32) -> Result<String, Fail> {
-    let from = region_of(map, from)?;
-    let to = region_of(map, to)?;
-    match map.walk(alloc, from, to)? {
-        Some(walk) => {
-            let regions = walk.regions.as_slice();
-            Ok(format!(in alloc; "{regions:?}")?)
-        }
-        None => Ok(String::from_str(alloc, "none")?),
+fn walk(rt: &impl Abort, alloc: Global, map: &Map, from: u32, to: u32) -> String {
+    let from = region_of(rt, map, from);
+    let to = region_of(rt, map, to);
+    match map.walk(alloc, from, to).ok().expect(rt, "memory") {
+        Some(walk) => list(rt, alloc, walk.regions.as_slice()),
+        None => String::from_str(alloc, "none").expect(rt, "memory"),
     }
+}
+
+// Numbers as [0, 1, 2].
+fn list(rt: &impl Abort, alloc: Global, numbers: &[u32]) -> String {
+    format!(in alloc; "{numbers:?}").expect(rt, "memory")
 }
 
 const COMPONENTS_BY_THE_GAP: &str = "0 [0, 1, 2]
@@ -274,31 +269,28 @@ const COMPONENTS_BY_THE_GAP: &str = "0 [0, 1, 2]
 3 [3]";
 
 #[test]
-fn a_component_has_all_that_walks_join(rt: HostRuntime) -> Result<(), Fail> {
+fn a_component_has_all_that_walks_join(rt: HostRuntime) {
     let alloc = rt.alloc();
-    are_components(&rt, alloc, "[]", "0 [0]")?;
-    are_components(&rt, alloc, BAR, "5 [0, 1, 2, 3, 4, 5, 6]")?;
-    are_components(&rt, alloc, TALL_BAR, "1 [1]")?;
-    are_components(&rt, alloc, GAP, COMPONENTS_BY_THE_GAP)?;
-    are_components(&rt, alloc, RING, "12 [12]")
+    are_components(&rt, alloc, "[]", "0 [0]");
+    are_components(&rt, alloc, BAR, "5 [0, 1, 2, 3, 4, 5, 6]");
+    are_components(&rt, alloc, TALL_BAR, "1 [1]");
+    are_components(&rt, alloc, GAP, COMPONENTS_BY_THE_GAP);
+    are_components(&rt, alloc, RING, "12 [12]");
 }
 
 // Compares the component of each row's region.
-fn are_components<R: Threads + Sync + Abort>(
-    rt: &R,
-    alloc: Global,
-    obstacles: &str,
-    table: &str,
-) -> Result<(), Fail> {
-    let map = map_of(rt, alloc, obstacles)?;
+fn are_components<R: Threads + Sync + Abort>(rt: &R, alloc: Global, obstacles: &str, table: &str) {
+    let map = map_of(rt, alloc, obstacles);
     for row in table.lines() {
-        let (region, expected) = number(row)?;
-        let start = region_of(&map, region)?;
-        let found = map.component(alloc, start)?;
-        let told = format!(in alloc; "{found:?}")?;
-        expect(rt, &told, expected, row);
+        is_component(rt, alloc, &map, row);
     }
-    Ok(())
+}
+
+fn is_component(rt: &impl Abort, alloc: Global, map: &Map, row: &str) {
+    let (region, expected) = number(rt, row);
+    let start = region_of(rt, map, region);
+    let found = map.component(alloc, start).ok().expect(rt, "memory");
+    expect(rt, list(rt, alloc, &found), expected, row);
 }
 
 /// The region in the ring has a label of its own.
@@ -306,27 +298,20 @@ const LABELS_BY_THE_RING: &str =
     "[0, 0, 0, 0, 0, 0, 0, 0, 0, 0, 0, 0, 12, 0, 0, 0, 0, 0, 0, 0, 0, 0, 0, 0, 0]";
 
 #[test]
-fn a_label_is_the_least_region_of_a_component(rt: HostRuntime) -> Result<(), Fail> {
+fn a_label_is_the_least_region_of_a_component(rt: HostRuntime) {
     let alloc = rt.alloc();
-    are_labels(&rt, alloc, "[]", "[0]")?;
-    are_labels(&rt, alloc, BAR, "[0, 0, 0, 0, 0, 0, 0]")?;
-    are_labels(&rt, alloc, TALL_BAR, "[0, 1]")?;
-    are_labels(&rt, alloc, GAP, "[0, 0, 0, 3]")?;
-    are_labels(&rt, alloc, RING, LABELS_BY_THE_RING)
+    are_labels(&rt, alloc, "[]", "[0]");
+    are_labels(&rt, alloc, BAR, "[0, 0, 0, 0, 0, 0, 0]");
+    are_labels(&rt, alloc, TALL_BAR, "[0, 1]");
+    are_labels(&rt, alloc, GAP, "[0, 0, 0, 3]");
+    are_labels(&rt, alloc, RING, LABELS_BY_THE_RING);
 }
 
 // Compares the labels of all regions.
-fn are_labels<R: Threads + Sync + Abort>(
-    rt: &R,
-    alloc: Global,
-    obstacles: &str,
-    expected: &str,
-) -> Result<(), Fail> {
-    let map = map_of(rt, alloc, obstacles)?;
-    let found = map.labels(alloc)?;
-    let told = format!(in alloc; "{found:?}")?;
-    expect(rt, &told, expected, obstacles);
-    Ok(())
+fn are_labels<R: Threads + Sync + Abort>(rt: &R, alloc: Global, obstacles: &str, expected: &str) {
+    let map = map_of(rt, alloc, obstacles);
+    let found = map.labels(alloc).ok().expect(rt, "memory");
+    expect(rt, list(rt, alloc, &found), expected, obstacles);
 }
 
 /// Rows of a region and the segments of its ring.
@@ -349,48 +334,52 @@ const RINGS_BY_THE_SPIKES: &str =
     "4 [0,0,1,3,0,1] [3,0,1,3,11,1] [0,19,1,3,19,1] [0,0,1,0,19,1] [3,11,1,4,11,1] [3,19,1,4,19,1] [4,11,1,44,7,5] [4,19,1,44,95,5] [44,7,5,12,11,1] [44,95,5,12,19,1] [12,11,1,13,11,1] [12,19,1,13,19,1] [13,0,1,19,0,1] [19,0,1,19,19,1] [13,19,1,19,19,1] [13,0,1,13,11,1]";
 
 #[test]
-fn a_ring_has_the_sides_of_a_component(rt: HostRuntime) -> Result<(), Fail> {
+fn a_ring_has_the_sides_of_a_component(rt: HostRuntime) {
     let alloc = rt.alloc();
-    are_rings(&rt, alloc, BAR, RINGS_BY_THE_BAR)?;
-    are_rings(&rt, alloc, TALL_BAR, RINGS_BY_THE_TALL_BAR)?;
-    are_rings(&rt, alloc, GAP, RINGS_BY_THE_GAP)?;
-    are_rings(&rt, alloc, RING, RINGS_BY_THE_RING)?;
-    are_rings(&rt, alloc, SPIKES, RINGS_BY_THE_SPIKES)
+    are_rings(&rt, alloc, BAR, RINGS_BY_THE_BAR);
+    are_rings(&rt, alloc, TALL_BAR, RINGS_BY_THE_TALL_BAR);
+    are_rings(&rt, alloc, GAP, RINGS_BY_THE_GAP);
+    are_rings(&rt, alloc, RING, RINGS_BY_THE_RING);
+    are_rings(&rt, alloc, SPIKES, RINGS_BY_THE_SPIKES);
 }
 
 // Compares the ring of each row's region.
-fn are_rings<R: Threads + Sync + Abort>(
-    rt: &R,
-    alloc: Global,
-    obstacles: &str,
-    table: &str,
-) -> Result<(), Fail> {
-    let map = map_of(rt, alloc, obstacles)?;
+fn are_rings<R: Threads + Sync + Abort>(rt: &R, alloc: Global, obstacles: &str, table: &str) {
+    let map = map_of(rt, alloc, obstacles);
     for row in table.lines() {
-        let (region, expected) = number(row)?;
-        let start = region_of(&map, region)?;
-        let chain = ring(alloc, &map, start)?;
-        let told = segments(alloc, &chain.segments)?;
-        expect(rt, &told, expected, row);
+        is_ring(rt, alloc, &map, row);
     }
-    Ok(())
+}
+
+fn is_ring(rt: &impl Abort, alloc: Global, map: &Map, row: &str) {
+    let (region, expected) = number(rt, row);
+    let start = region_of(rt, map, region);
+    let chain = ring(alloc, map, start).ok().expect(rt, "memory");
+    expect(rt, segments(rt, alloc, &chain.segments), expected, row);
 }
 
 // Segments as a document has them, in one line.
-fn segments(alloc: Global, chain: &[Segment]) -> Result<String, AllocError> {
+fn segments(rt: &impl Abort, alloc: Global, chain: &[Segment]) -> String {
     let mut text = String::new(alloc);
     for segment in chain {
         if !text.is_empty() {
-            text.push_str(" ")?;
+            push(rt, &mut text, " ");
         }
-        push_ends(alloc, &mut text, segment.a, segment.b)?;
+        push_segment(rt, alloc, &mut text, segment.a, segment.b);
     }
-    Ok(text)
+    text
 }
 
-fn push_ends(alloc: Global, text: &mut String, a: Point, b: Point) -> Result<(), AllocError> {
-    let (ax, ay, aw) = (a.x(), a.y(), a.w());
-    let (bx, by, bw) = (b.x(), b.y(), b.w());
-    let ends = format!(in alloc; "[{ax},{ay},{aw},{bx},{by},{bw}]")?;
-    text.push_str(ends.as_str())
+fn push_segment(rt: &impl Abort, alloc: Global, text: &mut String, a: Point, b: Point) {
+    push(rt, text, "[");
+    push_point(rt, alloc, text, a);
+    push(rt, text, ",");
+    push_point(rt, alloc, text, b);
+    push(rt, text, "]");
+}
+
+fn push_point(rt: &impl Abort, alloc: Global, text: &mut String, point: Point) {
+    let (x, y, w) = (point.x(), point.y(), point.w());
+    let numbers = format!(in alloc; "{x},{y},{w}").expect(rt, "memory");
+    push(rt, text, numbers.as_str());
 }

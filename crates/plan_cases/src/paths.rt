@@ -1,10 +1,9 @@
-use crate::calls::{answer_to, column, expect, words_of};
-use crate::documents::{CORNER, SPIKE, document};
+use crate::calls::{column, is_told};
+use crate::documents::{CORNER, SPIKE, certificate_of, document};
 use crate::scenes::BAR;
 use std::alloc::Global;
 use std::process::Abort;
 use std::sync::Wait;
-use std::test::Fail;
 use std::thread::Threads;
 
 /// Rows of a query, a path, and what `check` tells of them with this robot and these obstacles.
@@ -14,17 +13,26 @@ pub fn answers<R: Threads + Wait + Sync + Abort>(
     robot: &str,
     obstacles: &str,
     table: &str,
-) -> Result<(), Fail> {
-    let words = words_of(alloc, "check")?;
+) {
     for row in table.lines() {
-        let (query, rest) = column(row)?;
-        let (path, expected) = column(rest)?;
-        let certificate = format!(in alloc; "{{\"path\":{path}}}")?;
-        let text = document(alloc, robot, obstacles, query, certificate.as_str())?;
-        let told = answer_to(rt, alloc, words.as_slice(), text.as_bytes())?;
-        expect(rt, &told, expected, row);
+        is_answered(rt, alloc, robot, obstacles, "path", row);
     }
-    Ok(())
+}
+
+/// Compares what `check` tells of a row of a query and a path or a chain.
+pub fn is_answered<R: Threads + Wait + Sync + Abort>(
+    rt: &R,
+    alloc: Global,
+    robot: &str,
+    obstacles: &str,
+    kind: &str,
+    row: &str,
+) {
+    let (query, rest) = column(rt, row);
+    let (points, expected) = column(rt, rest);
+    let certificate = certificate_of(rt, alloc, kind, points);
+    let text = document(rt, alloc, robot, obstacles, query, certificate.as_str());
+    is_told(rt, alloc, "check", text.as_bytes(), expected, row);
 }
 
 /// The corner robot and the spike: round it, through it, grazing its corner; each fault of a path, and which comes
@@ -64,10 +72,10 @@ const IN_THE_FRAME: &str = r#"[0,2,2,2] [[0,2,1],[2,2,1]] 6 "invalid: touches 0\
 [2,2,2,2] [[2,2,1],[2,18,1],[30,18,1],[2,2,1]] 6 "invalid: touches 1\n""#;
 
 #[test]
-fn a_path_is_checked_against_an_obstacle_and_the_frame(rt: HostRuntime) -> Result<(), Fail> {
+fn a_path_is_checked_against_an_obstacle_and_the_frame(rt: HostRuntime) {
     let alloc = rt.alloc();
-    answers(&rt, alloc, CORNER, SPIKE, BY_THE_SPIKE)?;
-    answers(&rt, alloc, CORNER, "[]", IN_THE_FRAME)
+    answers(&rt, alloc, CORNER, SPIKE, BY_THE_SPIKE);
+    answers(&rt, alloc, CORNER, "[]", IN_THE_FRAME);
 }
 
 /// The corner robot and the spike, each in the other direction of turning, which changes nothing.
@@ -76,11 +84,11 @@ const TURNED_CORNER: &str = "[[0,1],[1,0],[0,0]]";
 const TURNED_SPIKE: &str = r#"[{"id":1,"shape":[[9,10],[11,-5],[9,-5]]}]"#;
 
 #[test]
-fn the_direction_in_which_corners_come_changes_nothing(rt: HostRuntime) -> Result<(), Fail> {
+fn the_direction_in_which_corners_come_changes_nothing(rt: HostRuntime) {
     let alloc = rt.alloc();
-    answers(&rt, alloc, CORNER, TURNED_SPIKE, BY_THE_SPIKE)?;
-    answers(&rt, alloc, TURNED_CORNER, SPIKE, BY_THE_SPIKE)?;
-    answers(&rt, alloc, TURNED_CORNER, TURNED_SPIKE, BY_THE_SPIKE)
+    answers(&rt, alloc, CORNER, TURNED_SPIKE, BY_THE_SPIKE);
+    answers(&rt, alloc, TURNED_CORNER, SPIKE, BY_THE_SPIKE);
+    answers(&rt, alloc, TURNED_CORNER, TURNED_SPIKE, BY_THE_SPIKE);
 }
 
 /// A robot that reaches 4 to the right, and a wall from (9, 5) and (11, 5) up to (9, 15): right of the wall the robot
@@ -110,11 +118,11 @@ const FAR_BY_THE_SPIKE: &str =
 [-4,-4,10,-4] [[-4,-4,1],[10,-4,1]] 6 "invalid: touches 0\n""#;
 
 #[test]
-fn a_robot_touches_with_the_side_that_reaches_out(rt: HostRuntime) -> Result<(), Fail> {
+fn a_robot_touches_with_the_side_that_reaches_out(rt: HostRuntime) {
     let alloc = rt.alloc();
-    answers(&rt, alloc, LONG, WALL, BY_THE_WALL)?;
-    answers(&rt, alloc, LEFT, "[]", LEFT_IN_THE_FRAME)?;
-    answers(&rt, alloc, FAR, SPIKE, FAR_BY_THE_SPIKE)
+    answers(&rt, alloc, LONG, WALL, BY_THE_WALL);
+    answers(&rt, alloc, LEFT, "[]", LEFT_IN_THE_FRAME);
+    answers(&rt, alloc, FAR, SPIKE, FAR_BY_THE_SPIKE);
 }
 
 /// A small triangle, which the corner robot touches from (9, 8) and (11, 8) up to (9, 11) and (10, 11): through the sum
@@ -136,10 +144,10 @@ const BY_THE_SHELVES: &str =
 [1,2,1,18] [[1,2,1],[1,18,1]] 0 "valid\n""#;
 
 #[test]
-fn the_first_segment_that_touches_any_obstacle_is_told(rt: HostRuntime) -> Result<(), Fail> {
+fn the_first_segment_that_touches_any_obstacle_is_told(rt: HostRuntime) {
     let alloc = rt.alloc();
-    answers(&rt, alloc, CORNER, ROCK, BY_THE_ROCK)?;
-    answers(&rt, alloc, CORNER, SHELVES, BY_THE_SHELVES)
+    answers(&rt, alloc, CORNER, ROCK, BY_THE_ROCK);
+    answers(&rt, alloc, CORNER, SHELVES, BY_THE_SHELVES);
 }
 
 /// The corner robot and the spike, with points in lowest terms and not: through the sum at (17/2, 19/2), past it; a start
@@ -160,8 +168,8 @@ const BY_THE_BAR: &str =
 [2,2,15,2] [[2,2,1],[15,2,1]] 6 "invalid: touches 0\n""#;
 
 #[test]
-fn points_of_a_path_are_rational(rt: HostRuntime) -> Result<(), Fail> {
+fn points_of_a_path_are_rational(rt: HostRuntime) {
     let alloc = rt.alloc();
-    answers(&rt, alloc, CORNER, SPIKE, RATIONAL)?;
-    answers(&rt, alloc, CORNER, BAR, BY_THE_BAR)
+    answers(&rt, alloc, CORNER, SPIKE, RATIONAL);
+    answers(&rt, alloc, CORNER, BAR, BY_THE_BAR);
 }

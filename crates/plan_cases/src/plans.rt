@@ -1,30 +1,41 @@
-use crate::calls::{answer_from, answer_to, code_of, column, expect, words_of, written};
+use crate::calls::{answer_from, column, expect, is_told, written};
 use crate::documents::{CORNER, SPIKE, plan_document};
-use plan_wire::{MemorySink, MemorySource};
+use crate::faults::{sink_of, source_of, told_into};
 use std::alloc::Global;
 use std::process::Abort;
 use std::sync::Wait;
-use std::test::Fail;
 use std::thread::Threads;
 
 // Rows of a query and its reply, with the corner robot and these obstacles: each alone in a document.
-fn answers<R: Threads + Wait + Sync + Abort>(
+fn answers<R: Threads + Wait + Sync + Abort>(rt: &R, alloc: Global, obstacles: &str, table: &str) {
+    for row in table.lines() {
+        is_answered(rt, alloc, obstacles, row);
+    }
+}
+
+fn is_answered<R: Threads + Wait + Sync + Abort>(
     rt: &R,
     alloc: Global,
     obstacles: &str,
-    table: &str,
-) -> Result<(), Fail> {
-    let words = words_of(alloc, "plan|3")?;
-    for row in table.lines() {
-        let (query, reply) = column(row)?;
-        let queries = format!(in alloc; "[{query}]")?;
-        let text = plan_document(alloc, CORNER, obstacles, queries.as_str())?;
-        let told = answer_to(rt, alloc, words.as_slice(), text.as_bytes())?;
-        let lines = format!(in alloc; "query 1 {reply}\nend\n")?;
-        let expected = written(alloc, 0, lines.as_bytes())?;
-        expect(rt, &told, expected.as_str(), row);
-    }
-    Ok(())
+    row: &str,
+) {
+    let (query, reply) = column(rt, row);
+    let queries = format!(in alloc; "[{query}]").expect(rt, "memory");
+    let text = plan_document(rt, alloc, CORNER, obstacles, queries.as_str());
+    let lines = format!(in alloc; "query 1 {reply}\nend\n").expect(rt, "memory");
+    writes(rt, alloc, text.as_bytes(), lines.as_bytes(), row);
+}
+
+// Compares the lines of a document of `plan`.
+fn writes<R: Threads + Wait + Sync + Abort>(
+    rt: &R,
+    alloc: Global,
+    text: &[u8],
+    lines: &[u8],
+    row: &str,
+) {
+    let expected = written(rt, alloc, 0, lines);
+    is_told(rt, alloc, "plan|3", text, expected.as_str(), row);
 }
 
 /// Nothing on the floor: a way, one point, a start and a goal on the room's sides and beyond them.
@@ -96,15 +107,15 @@ const RING: &str =
     r#"[{"id":1,"shape":[[4,4],[6,4],[6,16],[4,16]]},{"id":2,"shape":[[14,4],[16,4],[16,16],[14,16]]},{"id":3,"shape":[[4,4],[16,4],[16,6],[4,6]]},{"id":4,"shape":[[4,14],[16,14],[16,16],[4,16]]}]"#;
 
 #[test]
-fn a_query_is_answered_with_a_path_a_chain_or_what_is_touched(rt: HostRuntime) -> Result<(), Fail> {
+fn a_query_is_answered_with_a_path_a_chain_or_what_is_touched(rt: HostRuntime) {
     let alloc = rt.alloc();
-    answers(&rt, alloc, "[]", EMPTY_FLOOR)?;
-    answers(&rt, alloc, BAR, BY_THE_BAR)?;
-    answers(&rt, alloc, TALL_BAR, BY_THE_TALL_BAR)?;
-    answers(&rt, alloc, CLOSED_GAP, BY_THE_CLOSED_GAP)?;
-    answers(&rt, alloc, OPEN_GAP, BY_THE_OPEN_GAP)?;
-    answers(&rt, alloc, RING, BY_THE_RING)?;
-    answers(&rt, alloc, SPIKE, BY_THE_SPIKE)
+    answers(&rt, alloc, "[]", EMPTY_FLOOR);
+    answers(&rt, alloc, BAR, BY_THE_BAR);
+    answers(&rt, alloc, TALL_BAR, BY_THE_TALL_BAR);
+    answers(&rt, alloc, CLOSED_GAP, BY_THE_CLOSED_GAP);
+    answers(&rt, alloc, OPEN_GAP, BY_THE_OPEN_GAP);
+    answers(&rt, alloc, RING, BY_THE_RING);
+    answers(&rt, alloc, SPIKE, BY_THE_SPIKE);
 }
 
 /// Queries, and what is told of them by the bar: none; two, which are numbered from 1; the same twice.
@@ -122,15 +133,17 @@ end
 "#;
 
 #[test]
-fn queries_from_one_side_of_a_bar_have_one_chain(rt: HostRuntime) -> Result<(), Fail> {
+fn queries_from_one_side_of_a_bar_have_one_chain(rt: HostRuntime) {
     let alloc = rt.alloc();
-    let words = words_of(alloc, "plan|3")?;
     let queries = "[[2,2,15,2],[3,3,15,2],[15,2,2,2],[15,3,2,2]]";
-    let text = plan_document(alloc, CORNER, TALL_BAR, queries)?;
-    let told = answer_to(&rt, alloc, words.as_slice(), text.as_bytes())?;
-    let expected = written(alloc, 0, FROM_BOTH_SIDES.as_bytes())?;
-    expect(&rt, &told, expected.as_str(), "two queries from each side");
-    Ok(())
+    let text = plan_document(&rt, alloc, CORNER, TALL_BAR, queries);
+    writes(
+        &rt,
+        alloc,
+        text.as_bytes(),
+        FROM_BOTH_SIDES.as_bytes(),
+        queries,
+    );
 }
 
 /// Documents of `plan` that are refused, by their robot, obstacles and queries: no simple robot, one before an obstacle
@@ -142,54 +155,53 @@ const REFUSED: &str = r#"[[0,0],[1,1],[2,2]] [] [[2,2,5,5]] 2 "refused: robot no
 [[0,0],[1,0],[0,1]] [] [[2,2,5,5],[2,2,5,2047]] 2 "refused: range $.queries[1][3]\n"
 [[0,0],[1,0],[0,1]] [] {} 2 "refused: form $.queries\n""#;
 
+// Compares what is told of a row of NUMBERED.
+fn is_numbered<R: Threads + Wait + Sync + Abort>(rt: &R, alloc: Global, words: &str, row: &str) {
+    let (queries, expected) = column(rt, row);
+    let text = plan_document(rt, alloc, CORNER, BAR, queries);
+    is_told(rt, alloc, words, text.as_bytes(), expected, row);
+}
+
+// Compares what is told of a row of REFUSED.
+fn is_refused<R: Threads + Wait + Sync + Abort>(rt: &R, alloc: Global, words: &str, row: &str) {
+    let (robot, rest) = column(rt, row);
+    let (obstacles, rest) = column(rt, rest);
+    let (queries, expected) = column(rt, rest);
+    let text = plan_document(rt, alloc, robot, obstacles, queries);
+    is_told(rt, alloc, words, text.as_bytes(), expected, row);
+}
+
 #[test]
-fn queries_are_numbered_and_the_first_refusal_is_told(rt: HostRuntime) -> Result<(), Fail> {
-    let alloc = rt.alloc();
-    for workers in ["plan|1", "plan|16"] {
-        let words = words_of(alloc, workers)?;
-        for row in NUMBERED.lines() {
-            let (queries, expected) = column(row)?;
-            let text = plan_document(alloc, CORNER, BAR, queries)?;
-            let told = answer_to(&rt, alloc, words.as_slice(), text.as_bytes())?;
-            expect(&rt, &told, expected, row);
-        }
-        for row in REFUSED.lines() {
-            let (robot, rest) = column(row)?;
-            let (obstacles, rest) = column(rest)?;
-            let (queries, expected) = column(rest)?;
-            let text = plan_document(alloc, robot, obstacles, queries)?;
-            let told = answer_to(&rt, alloc, words.as_slice(), text.as_bytes())?;
-            expect(&rt, &told, expected, row);
-        }
+fn queries_are_numbered(rt: HostRuntime) {
+    for row in NUMBERED.lines() {
+        is_numbered(&rt, rt.alloc(), "plan|1", row);
+        is_numbered(&rt, rt.alloc(), "plan|16", row);
     }
-    Ok(())
 }
 
 #[test]
-fn a_sink_that_fails_at_its_second_write_has_taken_the_first_line(
-    rt: HostRuntime,
-) -> Result<(), Fail> {
+fn the_first_refusal_is_told(rt: HostRuntime) {
+    for row in REFUSED.lines() {
+        is_refused(&rt, rt.alloc(), "plan|1", row);
+        is_refused(&rt, rt.alloc(), "plan|16", row);
+    }
+}
+
+#[test]
+fn a_sink_that_fails_at_its_second_write_has_taken_the_first_line(rt: HostRuntime) {
     let alloc = rt.alloc();
-    let words = words_of(alloc, "plan|3")?;
-    let text = plan_document(alloc, CORNER, BAR, "[[2,2,5,5],[8,5,15,2]]")?;
-    let bytes = text.as_bytes().to_vec(alloc)?;
-    let mut source = MemorySource::new(bytes, 1000, Vec::new(alloc));
-    let mut sink = MemorySink::new(alloc, 10_000, 10_000, vec![in alloc; 2]?)?;
-    let code = code_of(&rt, alloc, words.as_slice(), &mut source, &mut sink);
-    let told = written(alloc, code, sink.bytes())?;
+    let text = plan_document(&rt, alloc, CORNER, BAR, "[[2,2,5,5],[8,5,15,2]]");
+    let mut sink = sink_of(&rt, alloc, 10_000, 10_000, 2);
+    let told = told_into(&rt, alloc, "plan|3", text.as_str(), &mut sink);
     let expected = r#"4 "query 1 {\"path\":[[2,2,1],[5,5,1]]}\n""#;
-    expect(&rt, &told, expected, "two queries");
-    Ok(())
+    expect(&rt, told, expected, "two queries");
 }
 
 #[test]
-fn a_source_that_fails_at_its_first_read_is_a_read_fault(rt: HostRuntime) -> Result<(), Fail> {
+fn a_source_that_fails_at_its_first_read_is_a_read_fault(rt: HostRuntime) {
     let alloc = rt.alloc();
-    let words = words_of(alloc, "plan|3")?;
-    let text = plan_document(alloc, CORNER, BAR, "[[2,2,5,5]]")?;
-    let bytes = text.as_bytes().to_vec(alloc)?;
-    let mut source = MemorySource::new(bytes, 1000, vec![in alloc; 1]?);
-    let told = answer_from(&rt, alloc, words.as_slice(), &mut source)?;
-    expect(&rt, &told, r#"3 """#, "first read");
-    Ok(())
+    let text = plan_document(&rt, alloc, CORNER, BAR, "[[2,2,5,5]]");
+    let mut source = source_of(&rt, alloc, text.as_str(), 1000, &[1]);
+    let told = answer_from(&rt, alloc, "plan|3", &mut source);
+    expect(&rt, told, r#"3 """#, "first read");
 }

@@ -1,6 +1,5 @@
 use crate::documents::CORNER;
 use crate::paths::answers;
-use std::test::Fail;
 
 /// A robot like an L, and a square block that fits into its notch: robot and block are apart while the placement's
 /// coordinates are below 7.
@@ -30,9 +29,9 @@ const IN_THE_CUP: &str = r#"[9,18,9,9] [[9,18,1],[9,9,1]] 0 "valid\n"
 [9,9,2,9] [[9,9,1],[2,9,1]] 6 "invalid: touches 0\n""#;
 
 #[test]
-fn robots_and_obstacles_need_not_be_convex(rt: HostRuntime) -> Result<(), Fail> {
+fn robots_and_obstacles_need_not_be_convex(rt: HostRuntime) {
     let alloc = rt.alloc();
-    answers(&rt, alloc, ANGLE, BLOCK, IN_THE_NOTCH)?;
-    answers(&rt, alloc, FILLED, BLOCK, WITHOUT_A_NOTCH)?;
-    answers(&rt, alloc, CORNER, CUP, IN_THE_CUP)
+    answers(&rt, alloc, ANGLE, BLOCK, IN_THE_NOTCH);
+    answers(&rt, alloc, FILLED, BLOCK, WITHOUT_A_NOTCH);
+    answers(&rt, alloc, CORNER, CUP, IN_THE_CUP);
 }

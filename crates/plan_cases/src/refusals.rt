@@ -1,6 +1,9 @@
-use crate::calls::{answer_to, before, column, expect, words_of};
+use crate::calls::{before, column, is_told};
 use crate::documents::{CORNER, SPIKE, document, one_point};
-use std::test::Fail;
+use std::alloc::Global;
+use std::process::Abort;
+use std::sync::Wait;
+use std::thread::Threads;
 
 /// A robot, obstacles, a certificate, and what is told: obstacles with an id twice, not simple, the second fault of an
 /// obstacle that has two, an id out of range or missing, too few and too many spots, a spot out of range, spots of
@@ -34,21 +37,20 @@ const REFUSED: &str =
 [[0,0],[1,0],[0,1]] [] {"roads":[]} 2 "refused: form $.certificate\n"
 [[0,0],[1,0],[0,1]] [] {"path":[[2,2,1]] 2 "refused: json\n""#;
 
+// Compares what is told of a row of REFUSED.
+fn is_refused<R: Threads + Wait + Sync + Abort>(rt: &R, alloc: Global, row: &str) {
+    let (robot, rest) = column(rt, row);
+    let (obstacles, rest) = column(rt, rest);
+    let (certificate, expected) = column(rt, rest);
+    let text = document(rt, alloc, robot, obstacles, "[2,2,2,2]", certificate);
+    is_told(rt, alloc, "check", text.as_bytes(), expected, row);
+}
+
 #[test]
-fn a_document_is_refused_by_the_first_place_or_polygon_that_is_wrong(
-    rt: HostRuntime,
-) -> Result<(), Fail> {
-    let alloc = rt.alloc();
-    let words = words_of(alloc, "check")?;
+fn a_document_is_refused_by_the_first_place_or_polygon_that_is_wrong(rt: HostRuntime) {
     for row in REFUSED.lines() {
-        let (robot, rest) = column(row)?;
-        let (obstacles, rest) = column(rest)?;
-        let (certificate, expected) = column(rest)?;
-        let text = document(alloc, robot, obstacles, "[2,2,2,2]", certificate)?;
-        let told = answer_to(&rt, alloc, words.as_slice(), text.as_bytes())?;
-        expect(&rt, &told, expected, row);
+        is_refused(&rt, rt.alloc(), row);
     }
-    Ok(())
 }
 
 /// What is told of bytes that are no document, and of documents whose members come in another order, twice, with others
@@ -68,55 +70,64 @@ const TEXTS: &str = r#"2 "refused: json\n"=
 2 "refused: range $.query[0]\n"={"format":1,"frame":[0,0,20,20],"robot":[[0,0],[1,0],[0,1]],"obstacles":[],"query":[2047,2,2,2],"certificate":{"path":[[2,2,1]]}}
 2 "refused: form $.certificate\n"={"format":1,"frame":[0,0,20,20],"robot":[[0,0],[1,1],[2,2]],"obstacles":[],"query":[2,2,2,2]}"#;
 
+// Compares what is told of a row of TEXTS.
+fn is_text<R: Threads + Wait + Sync + Abort>(rt: &R, alloc: Global, row: &str) {
+    let (expected, text) = before(rt, row, '=');
+    is_told(rt, alloc, "check", text.as_bytes(), expected, row);
+}
+
+// Bytes that are not even a JSON text.
+fn is_no_json<R: Threads + Wait + Sync + Abort>(rt: &R, alloc: Global, bytes: &[u8], row: &str) {
+    is_told(rt, alloc, "check", bytes, r#"2 "refused: json\n""#, row);
+}
+
 #[test]
-fn members_come_in_any_order_and_bytes_of_no_document_are_refused(
-    rt: HostRuntime,
-) -> Result<(), Fail> {
+fn members_come_in_any_order_and_bytes_of_no_document_are_refused(rt: HostRuntime) {
     let alloc = rt.alloc();
-    let words = words_of(alloc, "check")?;
     for row in TEXTS.lines() {
-        let (expected, text) = before(row, '=')?;
-        let told = answer_to(&rt, alloc, words.as_slice(), text.as_bytes())?;
-        expect(&rt, &told, expected, row);
+        is_text(&rt, alloc, row);
     }
-    // Bytes that are no text.
-    let told = answer_to(&rt, alloc, words.as_slice(), &[34, 255, 34])?;
-    expect(&rt, &told, r#"2 "refused: json\n""#, "no UTF-8");
-    Ok(())
+    is_no_json(&rt, alloc, &[34, 255, 34], "no UTF-8");
 }
 
 #[test]
-fn each_beginning_of_a_document_is_no_json(rt: HostRuntime) -> Result<(), Fail> {
+fn each_beginning_of_a_document_is_no_json(rt: HostRuntime) {
     let alloc = rt.alloc();
-    let words = words_of(alloc, "check")?;
-    let text = one_point(alloc)?;
+    let text = one_point(&rt, alloc);
     for end in 0..text.len() {
-        let mut bytes = text.as_bytes().to_vec(alloc)?;
-        bytes.resize(end, 0)?;
-        let told = answer_to(&rt, alloc, words.as_slice(), bytes.as_slice())?;
-        expect(&rt, &told, r#"2 "refused: json\n""#, "a beginning");
+        is_no_json(&rt, alloc, &text.as_bytes()[..end], "a beginning");
     }
-    Ok(())
 }
 
-// Lists one inside another stand in a query that is repeated, and count as nested in the document.
+// A query that is repeated, first with so many lists one inside another.
+fn nested(rt: &impl Abort, alloc: Global, lists: usize) -> String {
+    let begin = "[".repeat(alloc, lists).expect(rt, "memory");
+    let end = "]".repeat(alloc, lists).expect(rt, "memory");
+    format!(in alloc; "{begin}{end},\"query\":[2,2,2,2]").expect(rt, "memory")
+}
+
+// Compares what is told of such a query: its lists count as nested in the document.
+fn is_nested<R: Threads + Wait + Sync + Abort>(
+    rt: &R,
+    alloc: Global,
+    lists: usize,
+    expected: &str,
+) {
+    let query = nested(rt, alloc, lists);
+    let certificate = "{\"path\":[[2,2,1]]}";
+    let text = document(rt, alloc, CORNER, SPIKE, query.as_str(), certificate);
+    is_told(
+        rt,
+        alloc,
+        "check",
+        text.as_bytes(),
+        expected,
+        "nested lists",
+    );
+}
+
 #[test]
-fn lists_are_nested_to_127(rt: HostRuntime) -> Result<(), Fail> {
-    let alloc = rt.alloc();
-    let words = words_of(alloc, "check")?;
-    for (lists, expected) in [(126, r#"0 "valid\n""#), (127, r#"2 "refused: json\n""#)] {
-        let mut query = String::new(alloc);
-        for _ in 0..lists {
-            query.push_str("[")?;
-        }
-        for _ in 0..lists {
-            query.push_str("]")?;
-        }
-        query.push_str(",\"query\":[2,2,2,2]")?;
-        let certificate = "{\"path\":[[2,2,1]]}";
-        let text = document(alloc, CORNER, SPIKE, query.as_str(), certificate)?;
-        let told = answer_to(&rt, alloc, words.as_slice(), text.as_bytes())?;
-        expect(&rt, &told, expected, "nested lists");
-    }
-    Ok(())
+fn lists_are_nested_to_127(rt: HostRuntime) {
+    is_nested(&rt, rt.alloc(), 126, r#"0 "valid\n""#);
+    is_nested(&rt, rt.alloc(), 127, r#"2 "refused: json\n""#);
 }

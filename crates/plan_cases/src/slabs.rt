@@ -1,12 +1,12 @@
-ghost use Rattle.std.specs.Prelude.{◌<◌, length};
+ghost use Rattle.std.specs.Prelude.{◌<◌, ◌≤◌, length};
 
-use crate::calls::expect;
+use crate::calls::{expect, push};
 use crate::scenes::{BAR, FRAME, GAP, RING, SPIKES, TALL_BAR, scene_of, slabs_of};
 use plan_grid::{Ratio, Spot};
+use plan_scene::Scene;
 use plan_slab::{Slabs, Strand};
-use std::alloc::{AllocError, Global};
+use std::alloc::Global;
 use std::process::Abort;
-use std::test::Fail;
 use std::thread::Threads;
 
 /// The bar ends at two lines; below it the floor is covered.
@@ -147,97 +147,108 @@ at 19: 0 19
 ";
 
 #[test]
-fn slabs_are_those_of_their_definition(rt: HostRuntime) -> Result<(), Fail> {
+fn slabs_are_those_of_their_definition(rt: HostRuntime) {
     let alloc = rt.alloc();
-    are_shown(&rt, alloc, BAR, BY_THE_BAR)?;
-    are_shown(&rt, alloc, "[]", BY_NOTHING)?;
-    are_shown(&rt, alloc, TALL_BAR, BY_THE_TALL_BAR)?;
-    are_shown(&rt, alloc, GAP, BY_THE_GAP)?;
-    are_shown(&rt, alloc, SHELVES, BY_THE_SHELVES)?;
-    are_shown(&rt, alloc, SPIKES, BY_THE_SPIKES)?;
-    are_shown(&rt, alloc, RING, BY_THE_RING)?;
-    are_shown(&rt, alloc, BARS_IN_LINE, BY_THE_BARS_IN_LINE)?;
-    are_shown(&rt, alloc, ROUND_A_POINT, BY_THE_POINT)
+    are_shown(&rt, alloc, BAR, BY_THE_BAR);
+    are_shown(&rt, alloc, "[]", BY_NOTHING);
+    are_shown(&rt, alloc, TALL_BAR, BY_THE_TALL_BAR);
+    are_shown(&rt, alloc, GAP, BY_THE_GAP);
+    are_shown(&rt, alloc, SHELVES, BY_THE_SHELVES);
+    are_shown(&rt, alloc, SPIKES, BY_THE_SPIKES);
+    are_shown(&rt, alloc, RING, BY_THE_RING);
+    are_shown(&rt, alloc, BARS_IN_LINE, BY_THE_BARS_IN_LINE);
+    are_shown(&rt, alloc, ROUND_A_POINT, BY_THE_POINT);
 }
 
 // Compares the slabs of these obstacles, by any number of workers.
-fn are_shown<R: Threads + Sync + Abort>(
+fn are_shown<R: Threads + Sync + Abort>(rt: &R, alloc: Global, obstacles: &str, expected: &str) {
+    let scene = scene_of(rt, alloc, FRAME, obstacles);
+    is_shown(rt, alloc, &scene, 1, expected);
+    is_shown(rt, alloc, &scene, 3, expected);
+    is_shown(rt, alloc, &scene, 16, expected);
+}
+
+// Compares the slabs of a scene, by this number of workers.
+fn is_shown<R: Threads + Sync + Abort>(
     rt: &R,
     alloc: Global,
-    obstacles: &str,
+    scene: &Scene,
+    workers: u8,
     expected: &str,
-) -> Result<(), Fail> {
-    let scene = scene_of(alloc, FRAME, obstacles)?;
-    for workers in [1, 3, 16] {
-        let slabs = slabs_of(rt, alloc, &scene, workers)?;
-        let told = shown(alloc, &slabs)?;
-        expect(rt, &told, expected, obstacles);
-    }
-    Ok(())
+)
+    requires least { 1 ≤ workers }
+    requires most { workers ≤ 16 }
+{
+    let slabs = slabs_of(rt, alloc, scene, workers);
+    expect(rt, shown(rt, alloc, &slabs), expected, "slabs");
 }
 
 #[test]
-fn a_room_without_width_has_no_slabs(rt: HostRuntime) -> Result<(), Fail> {
+fn a_room_without_width_has_no_slabs(rt: HostRuntime) {
     let alloc = rt.alloc();
-    let scene = scene_of(alloc, "[0,0,1,1]", "[]")?;
-    let slabs = slabs_of(&rt, alloc, &scene, 1)?;
-    let told = shown(alloc, &slabs)?;
-    expect(&rt, &told, "size 0, regions 0\n", "no width");
-    Ok(())
+    let scene = scene_of(&rt, alloc, "[0,0,1,1]", "[]");
+    is_shown(&rt, alloc, &scene, 1, "size 0, regions 0\n");
 }
 
 // The size of slabs and the number of their regions; then each line with its marks, and below it the spans on its
 // right.
-fn shown(alloc: Global, slabs: &Slabs) -> Result<String, AllocError> {
+fn shown(rt: &impl Abort, alloc: Global, slabs: &Slabs) -> String {
     let size = slabs.size();
     let regions = slabs.regions();
-    let mut text = format!(in alloc; "size {size}, regions {regions}\n")?;
+    let mut text = format!(in alloc; "size {size}, regions {regions}\n").expect(rt, "memory");
     let count = slabs.lines().len();
     for k in 0..count {
-        push_line(alloc, &mut text, slabs, k)?;
+        push_line(rt, alloc, &mut text, slabs, k);
         if k + 1 < count {
-            push_spans(alloc, &mut text, slabs.spans(k as u32))?;
+            push_spans(rt, alloc, &mut text, slabs.spans(k as u32));
         }
     }
-    Ok(text)
+    text
 }
 
 // Adds a line with its marks.
-fn push_line(alloc: Global, text: &mut String, slabs: &Slabs, k: usize) -> Result<(), AllocError>
+fn push_line(rt: &impl Abort, alloc: Global, text: &mut String, slabs: &Slabs, k: usize)
     requires { k < length slabs.now.lines }
 {
-    let x = value(alloc, slabs.lines()[k])?;
-    text.push_str("at ")?;
-    text.push_str(x.as_str())?;
-    text.push_str(":")?;
+    push(rt, text, "at ");
+    push_ratio(rt, alloc, text, slabs.lines()[k]);
+    push(rt, text, ":");
     for mark in slabs.marks(k as u32) {
-        let y = value(alloc, *mark)?;
-        text.push_str(" ")?;
-        text.push_str(y.as_str())?;
+        push(rt, text, " ");
+        push_ratio(rt, alloc, text, *mark);
     }
-    text.push_str("\n")?;
-    Ok(())
+    push(rt, text, "\n");
 }
 
 // Adds spans.
-fn push_spans(alloc: Global, text: &mut String, spans: &[Strand]) -> Result<(), AllocError> {
-    text.push_str("between:")?;
+fn push_spans(rt: &impl Abort, alloc: Global, text: &mut String, spans: &[Strand]) {
+    push(rt, text, "between:");
     for span in spans {
-        let Spot { x: ax, y: ay } = span.a;
-        let Spot { x: bx, y: by } = span.b;
-        let edge = format!(in alloc; " ({ax},{ay})-({bx},{by})")?;
-        text.push_str(edge.as_str())?;
+        push_span(rt, alloc, text, span.a, span.b);
     }
-    text.push_str("\n")?;
-    Ok(())
+    push(rt, text, "\n");
+}
+
+// Adds the span between two spots.
+fn push_span(rt: &impl Abort, alloc: Global, text: &mut String, a: Spot, b: Spot) {
+    let Spot { x: ax, y: ay } = a;
+    let Spot { x: bx, y: by } = b;
+    let span = format!(in alloc; " ({ax},{ay})-({bx},{by})").expect(rt, "memory");
+    push(rt, text, span.as_str());
+}
+
+// Adds a ratio, as 5 or 7/5.
+fn push_ratio(rt: &impl Abort, alloc: Global, text: &mut String, ratio: Ratio) {
+    let value = value(rt, alloc, ratio);
+    push(rt, text, value.as_str());
 }
 
 // A ratio as 5 or 7/5.
-fn value(alloc: Global, ratio: Ratio) -> Result<String, AllocError> {
+fn value(rt: &impl Abort, alloc: Global, ratio: Ratio) -> String {
     let num = ratio.num();
     let den = ratio.den();
     if den == 1 {
-        return format!(in alloc; "{num}");
+        return format!(in alloc; "{num}").expect(rt, "memory");
     }
-    format!(in alloc; "{num}/{den}")
+    format!(in alloc; "{num}/{den}").expect(rt, "memory")
 }
