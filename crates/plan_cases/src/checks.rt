@@ -20,13 +20,17 @@ fn checked<R: Threads + Sync + Abort>(
     run_check(rt, alloc, &mut SteadySource::new(bytes), sink)
 }
 
+fn is_status(rt: &impl Abort, told: Status, status: Status, row: &str) {
+    assert!(rt; told == status, "{row}");
+}
+
 // Compares how the check of a row's query and path ends, and the line behind them.
 fn ends<R: Threads + Sync + Abort>(rt: &R, alloc: Global, row: &str, status: Status) {
     let (query, rest) = column(rt, row);
     let (path, line) = column(rt, rest);
     let mut sink = SteadySink::new(alloc, 100).expect(rt, "memory");
     let told = checked(rt, alloc, query, path, &mut sink);
-    assert!(rt; told == status, "{row}");
+    is_status(rt, told, status, row);
     assert!(rt; sink.bytes() == line.as_bytes(), "{row}");
 }
 
