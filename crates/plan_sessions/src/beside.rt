@@ -1,7 +1,7 @@
-use crate::calls::{document, lines_by};
+use crate::calls::lines_by;
 use plan_watch::{Gate, Place};
+use std::process::Abort;
 use std::sync::atomic::{AtomicBool, Ordering};
-use std::test::Fail;
 
 // A bar comes and goes, while the last of the most lanes asks twice whether it is in the way.
 const LAST_LANE_ASKS: &str =
@@ -63,17 +63,20 @@ impl Gate for Holding {
     }
 }
 
+// Stops the program where the last lane has not seen an edit between its two questions, or another line is not as it is.
+fn check(rt: &impl Abort, told: &str) {
+    assert!(rt; told.starts_with(BEFORE) && told.ends_with(END), "{told}");
+    assert!(rt; !told.contains("lane 8 query 2 version 0 "), "{told}");
+}
+
 // It needs a machine with two processors that gives a process two threads more: a load is repeated 100 million times,
 // which takes some tenths of a second, and within that time the other thread must come to its place. On a machine that
 // gives no threads, or one processor that stays with one of them for so long, it fails.
 #[test]
-fn edits_and_the_last_lane_run_at_once(rt: HostRuntime) -> Result<(), Fail> {
+fn edits_and_the_last_lane_run_at_once(rt: HostRuntime) {
     let alloc = rt.alloc();
     let gate = Holding::new();
-    let text = document(alloc, LAST_LANE_ASKS)?;
-    let told = lines_by(&rt, alloc, text.as_str(), &gate, &mut Vec::new(alloc))?;
+    let told = lines_by(&rt, alloc, LAST_LANE_ASKS, &gate, &mut Vec::new(alloc));
     assert!(&rt; !gate.failed.load(Ordering::SeqCst), "a wait was in vain");
-    assert!(&rt; told.starts_with(BEFORE) && told.ends_with(END), "{told}");
-    assert!(&rt; !told.contains("lane 8 query 2 version 0 "), "{told}");
-    Ok(())
+    check(&rt, told.as_str());
 }

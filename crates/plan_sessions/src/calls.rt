@@ -3,74 +3,129 @@ ghost use Rattle.std.specs.Prelude.{◌≤◌, All};
 use plan_top::run;
 use plan_watch::{Gate, OpenGate, Watcher};
 use plan_wire::{Sink, Source, SteadySink, SteadySource};
-use std::alloc::{AllocError, Global};
+use std::alloc::Global;
 use std::process::Abort;
 use std::sync::Wait;
-use std::test::Fail;
 use std::thread::Threads;
 
-/// The first number of an obstacle, and the shape of a bar that stands on the floor.
-pub const BAR: &str = r#"1,"shape":[[9,-5],[11,-5],[11,10],[9,10]]"#;
+/// A text of its own.
+pub fn text_of(rt: &impl Abort, alloc: Global, text: &str) -> String {
+    String::from_str(alloc, text).ok().expect(rt, "memory")
+}
 
-/// The same of a bar from below the frame to above it.
-pub const TALL_BAR: &str = r#"1,"shape":[[9,-5],[11,-5],[11,25],[9,25]]"#;
+/// Appends to a text.
+pub fn put(rt: &impl Abort, all: &mut String, more: &str) {
+    all.push_str(more).ok().expect(rt, "memory");
+}
+
+/// Appends one more item of a list.
+pub fn put_item(rt: &impl Abort, all: &mut String, item: &str) {
+    put(rt, all, ",");
+    put(rt, all, item);
+}
+
+/// The two columns of a row, which are parted so.
+pub fn columns<'a>(rt: &impl Abort, row: &'a str, parted: &str) -> (&'a str, &'a str) {
+    row.split_once(parted).expect(rt, "two columns")
+}
+
+/// The numbers of a row, which has N of them.
+pub fn numbers<const N: usize>(rt: &impl Abort, row: &str) -> [u32; N] {
+    let mut found = [0; N];
+    let mut count = 0;
+    for word in row.split(' ') {
+        assert!(rt; count < N, "{row}");
+        found[count] = word.parse::<u32>().ok().expect(rt, "a number");
+        count += 1;
+    }
+    assert!(rt; count == N, "{row}");
+    found
+}
 
 /// A document of rounds in a frame of 20 by 20, with a robot of width and height 1 and no first obstacle.
-pub fn document(alloc: Global, rounds: &str) -> Result<String, AllocError> {
-    format!(in alloc;
+pub fn document(rt: &impl Abort, alloc: Global, rounds: &str) -> String {
+    let made = format!(in alloc;
         "{{\"format\":1,\"frame\":[0,0,20,20],\"robot\":[[0,0],[1,0],[0,1]],\"obstacles\":[],\"rounds\":{rounds}}}"
-    )
+    );
+    made.ok().expect(rt, "memory")
 }
 
-/// Plays the session of a document with two workers, and gives its lines and its status.
-pub fn lines_of<R: Threads + Wait + Sync>(
+/// Plays the session of these rounds with two workers, by a gate and with watchers, and gives its lines and its status.
+pub fn lines_by<R: Threads + Wait + Sync + Abort, G: Gate>(
     rt: &R,
     alloc: Global,
-    text: &str,
-) -> Result<String, Fail> {
-    lines_by(rt, alloc, text, &OpenGate, &mut Vec::new(alloc))
+    rounds: &str,
+    gate: &G,
+    watchers: &mut Vec<Box<dyn Watcher>>,
+) -> String
+    requires room { All (λ w. 2048 ≤ room w) watchers.old.items }
+{
+    let text = document(rt, alloc, rounds);
+    lines_of(rt, alloc, text.as_str(), gate, watchers)
 }
 
-/// The same by a gate, and with watchers.
-pub fn lines_by<R: Threads + Wait + Sync, G: Gate>(
+// The same of a document.
+fn lines_of<R: Threads + Wait + Sync + Abort, G: Gate>(
     rt: &R,
     alloc: Global,
     text: &str,
     gate: &G,
     watchers: &mut Vec<Box<dyn Watcher>>,
-) -> Result<String, Fail>
+) -> String
     requires room { All (λ w. 2048 ≤ room w) watchers.old.items }
 {
-    let mut source = SteadySource::new(text.as_bytes().to_vec(alloc)?);
-    let mut sink = SteadySink::new(alloc, 1_000_000)?;
-    let code = code_of(rt, alloc, &mut source, &mut sink, gate, watchers)?;
-    written(alloc, code, sink.bytes())
+    let bytes = text.as_bytes().to_vec(alloc).ok().expect(rt, "memory");
+    let mut source = SteadySource::new(bytes);
+    let mut sink = SteadySink::new(alloc, 1_000_000).ok().expect(rt, "memory");
+    let code = code_of(rt, alloc, &mut source, &mut sink, gate, watchers);
+    written(rt, alloc, code, sink.bytes())
 }
 
 /// Plays a session with two workers, and gives its code.
-pub fn code_of<R: Threads + Wait + Sync, S: Source, K: Sink, G: Gate>(
+pub fn code_of<R: Threads + Wait + Sync + Abort, S: Source, K: Sink, G: Gate>(
     rt: &R,
     alloc: Global,
     source: &mut S,
     sink: &mut K,
     gate: &G,
     watchers: &mut Vec<Box<dyn Watcher>>,
-) -> Result<u8, Fail>
+) -> u8
     requires room { All (λ w. 2048 ≤ room w) watchers.old.items }
 {
-    let mut words = Vec::new(alloc);
-    words.push(String::from_str(alloc, "session")?)?;
-    words.push(String::from_str(alloc, "2")?)?;
-    Ok(run(rt, alloc, words.as_slice(), source, sink, gate, watchers).code())
+    let words = [text_of(rt, alloc, "session"), text_of(rt, alloc, "2")];
+    run(rt, alloc, words.as_slice(), source, sink, gate, watchers).code()
 }
 
 /// What was written, and the status on a line of its own.
-pub fn written(alloc: Global, code: u8, bytes: &[u8]) -> Result<String, Fail> {
-    let lines = str::from_utf8(bytes)?;
-    Ok(format!(in alloc; "{lines}status {code}\n")?)
+pub fn written(rt: &impl Abort, alloc: Global, code: u8, bytes: &[u8]) -> String {
+    let lines = str::from_utf8(bytes).ok().expect(rt, "a text");
+    let made = format!(in alloc; "{lines}status {code}\n");
+    made.ok().expect(rt, "memory")
 }
 
 /// Compares what was told with what is expected.
-pub fn expect(rt: &impl Abort, told: &String, expected: &str) {
-    assert_eq!(rt; told.as_str(), expected);
+pub fn expect(rt: &impl Abort, told: &str, expected: &str) {
+    assert_eq!(rt; told, expected);
+}
+
+/// Plays the session of a document, and compares its lines and its status with what is expected.
+pub fn expect_of<R: Threads + Wait + Sync + Abort>(
+    rt: &R,
+    alloc: Global,
+    text: &str,
+    expected: &str,
+) {
+    let told = lines_of(rt, alloc, text, &OpenGate, &mut Vec::new(alloc));
+    expect(rt, told.as_str(), expected);
+}
+
+/// The same of these rounds.
+pub fn expect_lines<R: Threads + Wait + Sync + Abort>(
+    rt: &R,
+    alloc: Global,
+    rounds: &str,
+    expected: &str,
+) {
+    let text = document(rt, alloc, rounds);
+    expect_of(rt, alloc, text.as_str(), expected);
 }

@@ -1,6 +1,6 @@
-use crate::calls::{expect, lines_of};
-use std::alloc::{AllocError, Global};
-use std::test::Fail;
+use crate::calls::{columns, expect_of, put, put_item, text_of};
+use std::alloc::Global;
+use std::process::Abort;
 
 // Combs of fifteen teeth that point to the right, one above the other, and one whose teeth point up, across all others. A
 // map of the first three is small, and that of all four is too large. The corner robot makes 30 sums of each.
@@ -25,27 +25,20 @@ const BOW: &str = "[[0,0],[2,2],[2,0],[0,2]]";
 
 // The first obstacles: the combs 1 to 14, of which all but two are the same, and the triangles 15 to 63, all the same. They
 // make 469 sums.
-fn first_obstacles(alloc: Global) -> Result<String, Fail> {
-    let mut all = obstacle(alloc, 1, MIDDLE_COMB)?;
-    push(&mut all, obstacle(alloc, 2, HIGH_COMB)?)?;
-    for id in 3..15 {
-        push(&mut all, obstacle(alloc, id, LOW_COMB)?)?;
+fn first_obstacles(rt: &impl Abort, alloc: Global) -> String {
+    let mut all = obstacle(rt, alloc, 1, MIDDLE_COMB);
+    put_item(rt, &mut all, obstacle(rt, alloc, 2, HIGH_COMB).as_str());
+    for id in 3..64 {
+        let shape = if id < 15 { LOW_COMB } else { TRIANGLE };
+        put_item(rt, &mut all, obstacle(rt, alloc, id, shape).as_str());
     }
-    for id in 15..64 {
-        push(&mut all, obstacle(alloc, id, TRIANGLE)?)?;
-    }
-    Ok(all)
+    all
 }
 
 // An obstacle of a document.
-fn obstacle(alloc: Global, id: u32, shape: &str) -> Result<String, AllocError> {
-    format!(in alloc; "{{\"id\":{id},\"shape\":{shape}}}")
-}
-
-// Appends one more item of a list.
-fn push(all: &mut String, item: String) -> Result<(), AllocError> {
-    all.push_str(",")?;
-    all.push_str(item.as_str())
+fn obstacle(rt: &impl Abort, alloc: Global, id: u32, shape: &str) -> String {
+    let made = format!(in alloc; "{{\"id\":{id},\"shape\":{shape}}}");
+    made.ok().expect(rt, "memory")
 }
 
 /// Edits, an id and a shape or an id alone, with their lines: each cause of a refusal, and causes that come
@@ -79,38 +72,57 @@ fn shape_of(name: &str) -> &'static str {
 }
 
 // The edit of a document that a row tells.
-fn edit(alloc: Global, text: &str) -> Result<String, AllocError> {
-    match text.split_once(' ') {
+fn edit(rt: &impl Abort, alloc: Global, text: &str) -> String {
+    let made = match text.split_once(' ') {
         Some((id, name)) => {
             let shape = shape_of(name);
             format!(in alloc; "{{\"add\":{id},\"shape\":{shape}}}")
         }
         None => format!(in alloc; "{{\"remove\":{text}}}"),
+    };
+    made.ok().expect(rt, "memory")
+}
+
+// All edits behind one that is refused, so that each row stands behind a comma.
+fn all_edits(rt: &impl Abort, alloc: Global) -> String {
+    let mut edits = edit(rt, alloc, "100");
+    for row in EDITS.lines() {
+        let (text, _) = columns(rt, row, ": ");
+        put_item(rt, &mut edits, edit(rt, alloc, text).as_str());
     }
+    edits
+}
+
+// The lines of all edits, and those of the lane behind them.
+fn all_lines(rt: &impl Abort, alloc: Global) -> String {
+    let mut lines = text_of(rt, alloc, "round 1\nedit 1 refused unknown 100\n");
+    for row in EDITS.lines() {
+        let (_, answer) = columns(rt, row, ": ");
+        put(rt, &mut lines, answer);
+        put(rt, &mut lines, "\n");
+    }
+    put(
+        rt,
+        &mut lines,
+        "round 2\nlane 1 query 1 version 5 {\"start\":15}\nend version 5\nstatus 0\n",
+    );
+    lines
+}
+
+// The document of the edits among the first obstacles, and of a lane behind them.
+fn session(rt: &impl Abort, alloc: Global) -> String {
+    let obstacles = first_obstacles(rt, alloc);
+    let edits = all_edits(rt, alloc);
+    let made = format!(in alloc;
+        "{{\"format\":1,\"frame\":[-1023,-1023,1023,1023],\"robot\":[[0,0],[1,0],[0,1]],\"obstacles\":[{obstacles}],\"rounds\":[{{\"edits\":[{edits}],\"lanes\":[]}},{{\"edits\":[],\"lanes\":[[[0,0,1,1]]]}}]}}"
+    );
+    made.ok().expect(rt, "memory")
 }
 
 #[test]
-fn each_cause_of_a_refusal_comes_in_one_session_and_changes_nothing(
-    rt: HostRuntime,
-) -> Result<(), Fail> {
+fn each_cause_of_a_refusal_comes_in_one_session_and_changes_nothing(rt: HostRuntime) {
     let alloc = rt.alloc();
-    let obstacles = first_obstacles(alloc)?;
-    // The first edit is refused, so that each row stands behind a comma.
-    let mut edits = edit(alloc, "100")?;
-    let mut lines = String::from_str(alloc, "round 1\nedit 1 refused unknown 100\n")?;
-    for row in EDITS.lines() {
-        let Some((text, answer)) = row.split_once(": ") else {
-            return Err(Fail::from("a column is missing"));
-        };
-        push(&mut edits, edit(alloc, text)?)?;
-        let line = format!(in alloc; "{answer}\n")?;
-        lines.push_str(line.as_str())?;
-    }
-    lines.push_str("round 2\nlane 1 query 1 version 5 {\"start\":15}\nend version 5\nstatus 0\n")?;
-    let text = format!(in alloc;
-        "{{\"format\":1,\"frame\":[-1023,-1023,1023,1023],\"robot\":[[0,0],[1,0],[0,1]],\"obstacles\":[{obstacles}],\"rounds\":[{{\"edits\":[{edits}],\"lanes\":[]}},{{\"edits\":[],\"lanes\":[[[0,0,1,1]]]}}]}}"
-    )?;
-    let told = lines_of(&rt, alloc, text.as_str())?;
-    expect(&rt, &told, lines.as_str());
-    Ok(())
+    let text = session(&rt, alloc);
+    let lines = all_lines(&rt, alloc);
+    expect_of(&rt, alloc, text.as_str(), lines.as_str());
 }

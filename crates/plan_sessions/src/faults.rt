@@ -1,7 +1,10 @@
-use crate::calls::{code_of, document, expect, lines_of, written};
+use crate::calls::{code_of, document, expect, expect_of, numbers, put, written};
 use plan_watch::OpenGate;
 use plan_wire::{MemorySink, MemorySource};
-use std::test::Fail;
+use std::alloc::Global;
+use std::process::Abort;
+use std::sync::Wait;
+use std::thread::Threads;
 
 /// Two rounds, of two edits and of two lanes.
 const TWO_ROUNDS: &str =
@@ -18,82 +21,84 @@ lane 2 query 1 version 1 {"start":1}
 end version 1
 "#;
 
+// A source of the two rounds that gives 100 bytes at a call, and fails at these calls.
+fn source_of(rt: &impl Abort, alloc: Global, fails: &[u32]) -> MemorySource {
+    let text = document(rt, alloc, TWO_ROUNDS);
+    let bytes = text.as_bytes().to_vec(alloc).ok().expect(rt, "memory");
+    let fails = Vec::from_slice(alloc, fails).ok().expect(rt, "memory");
+    MemorySource::new(bytes, 100, fails)
+}
+
+// A sink with room for so many bytes that takes so many at a call, and fails at these calls.
+fn sink_of(rt: &impl Abort, alloc: Global, room: u32, piece: u32, fails: &[u32]) -> MemorySink {
+    assert!(rt; 1 <= piece);
+    let fails = Vec::from_slice(alloc, fails).ok().expect(rt, "memory");
+    let sink = MemorySink::new(alloc, room, piece, fails);
+    sink.ok().expect(rt, "memory")
+}
+
+// Plays the two rounds, and compares what the sink has taken, and the status, with what is expected.
+fn expect_from<R: Threads + Wait + Sync + Abort>(
+    rt: &R,
+    alloc: Global,
+    mut source: MemorySource,
+    mut sink: MemorySink,
+    expected: &str,
+) {
+    let none = &mut Vec::new(alloc);
+    let code = code_of(rt, alloc, &mut source, &mut sink, &OpenGate, none);
+    let told = written(rt, alloc, code, sink.bytes());
+    expect(rt, told.as_str(), expected);
+}
+
+// Compares what a sink that fails at one call has taken with the lines before.
+fn expect_before<R: Threads + Wait + Sync + Abort>(rt: &R, alloc: Global, call: u32, front: &str) {
+    let source = source_of(rt, alloc, &[]);
+    let sink = sink_of(rt, alloc, 10_000, 10_000, &[call]);
+    let expected = written(rt, alloc, 4, front.as_bytes());
+    expect_from(rt, alloc, source, sink, expected.as_str());
+}
+
 #[test]
-fn a_sink_that_fails_at_one_write_has_taken_the_lines_before(rt: HostRuntime) -> Result<(), Fail> {
+fn a_sink_that_fails_at_one_write_has_taken_the_lines_before(rt: HostRuntime) {
     let alloc = rt.alloc();
-    let text = document(alloc, TWO_ROUNDS)?;
     let mut front = String::new(alloc);
     let mut call: u32 = 1;
     for line in THEIR_LINES.lines() {
-        let mut source = MemorySource::new(text.as_bytes().to_vec(alloc)?, 100, Vec::new(alloc));
-        let mut sink = MemorySink::new(alloc, 10_000, 10_000, vec![in alloc; call]?)?;
-        let none = &mut Vec::new(alloc);
-        let code = code_of(&rt, alloc, &mut source, &mut sink, &OpenGate, none)?;
-        let told = written(alloc, code, sink.bytes())?;
-        let expected = format!(in alloc; "{front}status 4\n")?;
-        expect(&rt, &told, expected.as_str());
-        front.push_str(line)?;
-        front.push_str("\n")?;
+        expect_before(&rt, alloc, call, front.as_str());
+        put(&rt, &mut front, line);
+        put(&rt, &mut front, "\n");
         call = u32::saturating_add(call, 1);
     }
-    Ok(())
 }
 
 /// A sink's room, the most bytes that it takes at a call, and the call that fails: it takes 30 bytes, and then no more.
 const NARROW: &str = "30 10000 1000\n30 1 1000\n10000 5 8\n10000 1 31";
 
 #[test]
-fn a_sink_that_fails_within_a_line_has_taken_a_front_of_it(rt: HostRuntime) -> Result<(), Fail> {
+fn a_sink_that_fails_within_a_line_has_taken_a_front_of_it(rt: HostRuntime) {
     let alloc = rt.alloc();
-    let text = document(alloc, TWO_ROUNDS)?;
     for row in NARROW.lines() {
-        let (room, rest) = number(row)?;
-        let (piece, call) = number(rest)?;
-        let call = call.parse::<u32>()?;
-        if piece > 0 {
-            let bytes = text.as_bytes().to_vec(alloc)?;
-            let mut source = MemorySource::new(bytes, 100, Vec::new(alloc));
-            let mut sink = MemorySink::new(alloc, room, piece, vec![in alloc; call]?)?;
-            let none = &mut Vec::new(alloc);
-            let code = code_of(&rt, alloc, &mut source, &mut sink, &OpenGate, none)?;
-            let told = written(alloc, code, sink.bytes())?;
-            expect(&rt, &told, "round 1\nedit 1 version 1\nedit status 4\n");
-        }
-    }
-    Ok(())
-}
-
-// The number in the first column of a row, and what is behind it.
-fn number(row: &str) -> Result<(u32, &str), Fail> {
-    match row.split_once(' ') {
-        Some((text, rest)) => Ok((text.parse::<u32>()?, rest)),
-        None => Err(Fail::from("a column is missing")),
+        let [room, piece, call] = numbers::<3>(&rt, row);
+        let source = source_of(&rt, alloc, &[]);
+        let sink = sink_of(&rt, alloc, room, piece, &[call]);
+        let expected = "round 1\nedit 1 version 1\nedit status 4\n";
+        expect_from(&rt, alloc, source, sink, expected);
     }
 }
 
 #[test]
-fn a_source_that_fails_leaves_the_sink_as_it_was(rt: HostRuntime) -> Result<(), Fail> {
+fn a_source_that_fails_leaves_the_sink_as_it_was(rt: HostRuntime) {
     let alloc = rt.alloc();
-    let text = document(alloc, TWO_ROUNDS)?;
     for call in [1, 2, 3] {
-        let mut source = MemorySource::new(
-            text.as_bytes().to_vec(alloc)?,
-            100,
-            vec![in alloc; call]?,
-        );
-        let mut sink = MemorySink::new(alloc, 10_000, 10_000, Vec::new(alloc))?;
-        let none = &mut Vec::new(alloc);
-        let code = code_of(&rt, alloc, &mut source, &mut sink, &OpenGate, none)?;
-        let told = written(alloc, code, sink.bytes())?;
-        expect(&rt, &told, "status 3\n");
+        let source = source_of(&rt, alloc, &[call]);
+        let sink = sink_of(&rt, alloc, 10_000, 10_000, &[]);
+        expect_from(&rt, alloc, source, sink, "status 3\n");
     }
-    Ok(())
 }
 
 #[test]
-fn a_document_that_ends_too_soon_is_no_json(rt: HostRuntime) -> Result<(), Fail> {
-    let alloc = rt.alloc();
-    let told = lines_of(&rt, alloc, "{\"format\":1,\"rounds\":[")?;
-    expect(&rt, &told, "refused: json\nstatus 2\n");
-    Ok(())
+fn a_document_that_ends_too_soon_is_no_json(rt: HostRuntime) {
+    let text = "{\"format\":1,\"rounds\":[";
+    expect_of(&rt, rt.alloc(), text, "refused: json\nstatus 2\n");
 }

@@ -1,92 +1,95 @@
-use crate::calls::{document, lines_by};
-use crate::watchers::tally;
+use crate::calls::{columns, expect_lines, lines_by, numbers, put, put_item, text_of};
+use crate::watchers::{one_tally, pairs_of_one};
 use plan_watch::OpenGate;
 use std::alloc::Global;
-use std::test::Fail;
+use std::process::Abort;
 
-// The text so many times, with a comma between.
-fn repeated(alloc: Global, times: u32, text: &str) -> Result<String, Fail> {
-    let mut all = String::from_str(alloc, text)?;
+// A list of the item so many times.
+fn list_of(rt: &impl Abort, alloc: Global, times: u32, item: &str) -> String {
+    let mut all = text_of(rt, alloc, "[");
+    put(rt, &mut all, item);
     for _ in 1..times {
-        all.push_str(",")?;
-        all.push_str(text)?;
+        put_item(rt, &mut all, item);
     }
-    Ok(all)
+    put(rt, &mut all, "]");
+    all
 }
+
+// A round of these edits and lanes.
+fn round_of(rt: &impl Abort, alloc: Global, edits: &str, lanes: &str) -> String {
+    let made = format!(in alloc; "{{\"edits\":{edits},\"lanes\":{lanes}}}");
+    made.ok().expect(rt, "memory")
+}
+
+// So many rounds, each with the edits so many times, and with so many lanes of so many queries.
+fn rounds_of(rt: &impl Abort, alloc: Global, edits: &str, counts: [u32; 4]) -> String {
+    let [rounds, times, lanes, queries] = counts;
+    let edits = list_of(rt, alloc, times, edits);
+    let lane = list_of(rt, alloc, queries, "[2,2,5,5]");
+    let lanes = list_of(rt, alloc, lanes, lane.as_str());
+    let round = round_of(rt, alloc, edits.as_str(), lanes.as_str());
+    list_of(rt, alloc, rounds, round.as_str())
+}
+
+/// A bar that comes and goes.
+const COMES_AND_GOES: &str = r#"{"add":1,"shape":[[9,-5],[11,-5],[11,10],[9,10]]},{"remove":1}"#;
 
 /// A query's reply, which is the same whether the bar stands or not.
 const REPLY: &str = r#" {"path":[[2,2,1],[5,5,1]]}"#;
 
-// The number of lines that begin and end so.
-fn count(text: &str, head: &str, tail: &str) -> usize {
-    text.lines()
+// Compares the number of lines that begin and end so with what is expected.
+fn expect_count(rt: &impl Abort, text: &str, head: &str, tail: &str, expected: usize) {
+    let found = text
+        .lines()
         .filter(|line| line.starts_with(head) && line.ends_with(tail))
-        .count()
+        .count();
+    assert_eq!(rt; found, expected);
+}
+
+// Stops the program where the lines are not those of 64 rounds of 32 edits and 8 lanes of 16 queries.
+fn check_lines(rt: &impl Abort, told: &str) {
+    expect_count(rt, told, "", "", 64 + 64 * 32 + 64 * 8 * 16 + 2);
+    expect_count(rt, told, "round ", "", 64);
+    expect_count(rt, told, "edit ", "", 2048);
+    expect_count(rt, told, "edit 32 version ", "", 64);
+    expect_count(rt, told, "lane 8 query 16 version ", REPLY, 64);
+    expect_count(rt, told, "lane ", REPLY, 8192);
+    assert!(rt; told.ends_with("\nend version 2048\nstatus 0\n"));
+}
+
+// Stops the program where the pairs are not 2048 of which the last is of no obstacle.
+fn check_pairs(rt: &impl Abort, kept: &[(u32, u32)]) {
+    assert_eq!(rt; kept.len(), 2048);
+    assert_eq!(rt; kept.last(), Some(&(2048, 0)));
 }
 
 #[test]
-fn a_session_may_have_64_rounds_of_32_edits_and_8_lanes_of_16_queries(
-    rt: HostRuntime,
-) -> Result<(), Fail> {
+fn a_session_may_have_64_rounds_of_32_edits_and_8_lanes_of_16_queries(rt: HostRuntime) {
     let alloc = rt.alloc();
-    let pair = r#"{"add":1,"shape":[[9,-5],[11,-5],[11,10],[9,10]]},{"remove":1}"#;
-    let edits = repeated(alloc, 16, pair)?;
-    let queries = repeated(alloc, 16, "[2,2,5,5]")?;
-    let lane = format!(in alloc; "[{queries}]")?;
-    let lanes = repeated(alloc, 8, lane.as_str())?;
-    let round = format!(in alloc; "{{\"edits\":[{edits}],\"lanes\":[{lanes}]}}")?;
-    let rounds = repeated(alloc, 64, round.as_str())?;
-    let all = format!(in alloc; "[{rounds}]")?;
-    let text = document(alloc, all.as_str())?;
-    let mut watchers = Vec::new(alloc);
-    watchers.push(tally(alloc)?)?;
-    let told = lines_by(&rt, alloc, text.as_str(), &OpenGate, &mut watchers)?;
-    let told = told.as_str();
-    assert_eq!(&rt; told.lines().count(), 64 + 64 * 32 + 64 * 8 * 16 + 2);
-    assert_eq!(&rt; count(told, "round ", ""), 64);
-    assert_eq!(&rt; count(told, "edit ", ""), 2048);
-    assert_eq!(&rt; count(told, "edit 32 version ", ""), 64);
-    assert_eq!(&rt; count(told, "lane 8 query 16 version ", REPLY), 64);
-    assert_eq!(&rt; count(told, "lane ", REPLY), 8192);
-    assert!(&rt; told.ends_with("\nend version 2048\nstatus 0\n"));
-    assert_eq!(&rt; watchers.len(), 1);
-    let kept = watchers[0].kept();
-    assert_eq!(&rt; kept.len(), 2048);
-    assert_eq!(&rt; kept.last(), Some(&(2048, 0)));
-    Ok(())
+    let rounds = rounds_of(&rt, alloc, COMES_AND_GOES, [64, 16, 8, 16]);
+    let mut watchers = one_tally(&rt, alloc);
+    let told = lines_by(&rt, alloc, rounds.as_str(), &OpenGate, &mut watchers);
+    check_lines(&rt, told.as_str());
+    check_pairs(&rt, pairs_of_one(&rt, watchers.as_slice()));
 }
 
 /// One more than may be, and the place that is refused.
 const ONE_MORE: &str =
-    "65 1 1 1 $.rounds\n1 33 1 1 $.rounds[0].edits\n1 1 9 1 $.rounds[0].lanes\n2 1 1 17 $.rounds[0].lanes[0]";
+    "65 1 1 1: $.rounds\n1 33 1 1: $.rounds[0].edits\n1 1 9 1: $.rounds[0].lanes\n2 1 1 17: $.rounds[0].lanes[0]";
 
-// The number in the first column of a row, and what is behind it.
-fn number(row: &str) -> Result<(u32, &str), Fail> {
-    match row.split_once(' ') {
-        Some((text, rest)) => Ok((text.parse::<u32>()?, rest)),
-        None => Err(Fail::from("a column is missing")),
-    }
+// The lines of a document that is refused at this place.
+fn refused_at(rt: &impl Abort, alloc: Global, place: &str) -> String {
+    let made = format!(in alloc; "refused: range {place}\nstatus 2\n");
+    made.ok().expect(rt, "memory")
 }
 
 #[test]
-fn one_more_of_each_is_refused(rt: HostRuntime) -> Result<(), Fail> {
+fn one_more_of_each_is_refused(rt: HostRuntime) {
     let alloc = rt.alloc();
     for row in ONE_MORE.lines() {
-        let (rounds, rest) = number(row)?;
-        let (edits, rest) = number(rest)?;
-        let (lanes, rest) = number(rest)?;
-        let (queries, place) = number(rest)?;
-        let edits = repeated(alloc, edits, r#"{"remove":1}"#)?;
-        let queries = repeated(alloc, queries, "[2,2,5,5]")?;
-        let lane = format!(in alloc; "[{queries}]")?;
-        let lanes = repeated(alloc, lanes, lane.as_str())?;
-        let round = format!(in alloc; "{{\"edits\":[{edits}],\"lanes\":[{lanes}]}}")?;
-        let rounds = repeated(alloc, rounds, round.as_str())?;
-        let all = format!(in alloc; "[{rounds}]")?;
-        let text = document(alloc, all.as_str())?;
-        let told = lines_by(&rt, alloc, text.as_str(), &OpenGate, &mut Vec::new(alloc))?;
-        let expected = format!(in alloc; "refused: range {place}\nstatus 2\n")?;
-        assert_eq!(&rt; told.as_str(), expected.as_str());
+        let (counts, place) = columns(&rt, row, ": ");
+        let rounds = rounds_of(&rt, alloc, r#"{"remove":1}"#, numbers::<4>(&rt, counts));
+        let expected = refused_at(&rt, alloc, place);
+        expect_lines(&rt, alloc, rounds.as_str(), expected.as_str());
     }
-    Ok(())
 }

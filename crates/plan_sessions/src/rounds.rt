@@ -1,5 +1,6 @@
-use crate::calls::{document, expect, lines_of};
-use std::test::Fail;
+use crate::calls::{columns, expect_lines};
+use std::alloc::Global;
+use std::process::Abort;
 
 /// Two edits that are refused behind one that is accepted, without lanes; then a lane without edits.
 const EDITS_AND_THEN_A_LANE: &str =
@@ -17,23 +18,13 @@ status 0
 "#;
 
 #[test]
-fn edits_are_accepted_or_refused_and_a_later_lane_sees_the_last_version(
-    rt: HostRuntime,
-) -> Result<(), Fail> {
-    let alloc = rt.alloc();
-    let text = document(alloc, EDITS_AND_THEN_A_LANE)?;
-    let told = lines_of(&rt, alloc, text.as_str())?;
-    expect(&rt, &told, THEIR_LINES);
-    Ok(())
+fn edits_are_accepted_or_refused_and_a_later_lane_sees_the_last_version(rt: HostRuntime) {
+    expect_lines(&rt, rt.alloc(), EDITS_AND_THEN_A_LANE, THEIR_LINES);
 }
 
 #[test]
-fn a_session_without_rounds_ends_with_the_first_version(rt: HostRuntime) -> Result<(), Fail> {
-    let alloc = rt.alloc();
-    let text = document(alloc, "[]")?;
-    let told = lines_of(&rt, alloc, text.as_str())?;
-    expect(&rt, &told, "end version 0\nstatus 0\n");
-    Ok(())
+fn a_session_without_rounds_ends_with_the_first_version(rt: HostRuntime) {
+    expect_lines(&rt, rt.alloc(), "[]", "end version 0\nstatus 0\n");
 }
 
 /// A round of nothing; one of lanes alone, of which one asks nothing; one of edits alone.
@@ -56,12 +47,8 @@ status 0
 "#;
 
 #[test]
-fn rounds_may_have_no_edits_no_lanes_or_neither(rt: HostRuntime) -> Result<(), Fail> {
-    let alloc = rt.alloc();
-    let text = document(alloc, SPARSE)?;
-    let told = lines_of(&rt, alloc, text.as_str())?;
-    expect(&rt, &told, SPARSE_LINES);
-    Ok(())
+fn rounds_may_have_no_edits_no_lanes_or_neither(rt: HostRuntime) {
+    expect_lines(&rt, rt.alloc(), SPARSE, SPARSE_LINES);
 }
 
 /// An id is removed and added again, in one round and across rounds, each time with another shape.
@@ -96,12 +83,8 @@ status 0
 "#;
 
 #[test]
-fn an_id_is_removed_and_added_again(rt: HostRuntime) -> Result<(), Fail> {
-    let alloc = rt.alloc();
-    let text = document(alloc, AGAIN)?;
-    let told = lines_of(&rt, alloc, text.as_str())?;
-    expect(&rt, &told, AGAIN_LINES);
-    Ok(())
+fn an_id_is_removed_and_added_again(rt: HostRuntime) {
+    expect_lines(&rt, rt.alloc(), AGAIN, AGAIN_LINES);
 }
 
 /// Rounds that no document may have, and why it is refused.
@@ -114,17 +97,18 @@ form $.rounds[1].lanes[0][0]=[{"edits":[],"lanes":[]},{"edits":[],"lanes":[[[2,2
 range $.rounds[0].lanes[0][0][2]=[{"edits":[],"lanes":[[[2,2,2047,5]]]}]
 range $.rounds[0].lanes=[{"edits":[],"lanes":[[],[],[],[],[],[],[],[],[]]}]"#;
 
+// The lines of a document that is refused for this.
+fn refused(rt: &impl Abort, alloc: Global, why: &str) -> String {
+    let made = format!(in alloc; "refused: {why}\nstatus 2\n");
+    made.ok().expect(rt, "memory")
+}
+
 #[test]
-fn a_document_that_is_refused_has_one_line(rt: HostRuntime) -> Result<(), Fail> {
+fn a_document_that_is_refused_has_one_line(rt: HostRuntime) {
     let alloc = rt.alloc();
     for row in REFUSED.lines() {
-        let Some((why, rounds)) = row.split_once('=') else {
-            return Err(Fail::from("a column is missing"));
-        };
-        let text = document(alloc, rounds)?;
-        let told = lines_of(&rt, alloc, text.as_str())?;
-        let expected = format!(in alloc; "refused: {why}\nstatus 2\n")?;
-        expect(&rt, &told, expected.as_str());
+        let (why, rounds) = columns(&rt, row, "=");
+        let expected = refused(&rt, alloc, why);
+        expect_lines(&rt, alloc, rounds, expected.as_str());
     }
-    Ok(())
 }

@@ -1,6 +1,7 @@
 ghost use Rattle.std.specs.Prelude.{◌↔◌, All, IsTrue};
 ghost use Rattle.plan_grid.specs.Spot.{IsWithin};
 
+use crate::calls::columns;
 use plan_grid::{Frame, MOST_CORNER, Spot};
 use plan_poly::Polygon;
 use plan_reply::{Stand, StepFault};
@@ -8,17 +9,31 @@ use plan_scene::{Edit, EditFault, Scene, SceneFault};
 use plan_watch::OpenGate;
 use std::alloc::Global;
 use std::process::Abort;
-use std::test::Fail;
 use std::thread::Threads;
 
-fn at(x: i32, y: i32) -> Spot {
-    Spot { x, y }
+// The spots of a text, as `0 0, 1 0, 0 1`.
+fn spots_of(rt: &impl Abort, alloc: Global, text: &str) -> Vec<Spot> {
+    let mut spots = Vec::new(alloc);
+    for pair in text.split(", ") {
+        let (x, y) = columns(rt, pair, " ");
+        let spot = Spot {
+            x: number(rt, x),
+            y: number(rt, y),
+        };
+        spots.push(spot).ok().expect(rt, "memory");
+    }
+    spots
+}
+
+// The number that a text is.
+fn number(rt: &impl Abort, text: &str) -> i32 {
+    text.parse::<i32>().ok().expect(rt, "a number")
 }
 
 // The scene of a robot in a frame of 20 by 20, without obstacles.
-fn empty(rt: &impl Abort, alloc: Global, robot: &[Spot]) -> Result<Scene, SceneFault> {
-    assert!(rt; robot.len() < 100);
-    let list = Vec::from_slice(alloc, robot).ok().expect(rt, "memory");
+fn empty(rt: &impl Abort, alloc: Global, robot: &str) -> Result<Scene, SceneFault> {
+    let list = spots_of(rt, alloc, robot);
+    assert!(rt; list.len() < 100);
     let robot = Polygon::read(list).ok().expect(rt, "simple");
     let frame = Frame {
         low: Spot { x: 0, y: 0 },
@@ -49,57 +64,47 @@ fn add<R: Threads + Sync + Abort>(
     alloc: Global,
     stand: &Stand,
     id: u32,
-    spots: &[Spot],
+    shape: &str,
 ) -> Result<Stand, StepFault> {
+    let spots = spots_of(rt, alloc, shape);
     assert!(rt; 1 <= id && id <= 65535);
     assert!(rt; 3 <= spots.len() && spots.len() <= 32);
-    check_range(rt, spots);
-    let spots = Vec::from_slice(alloc, spots).ok().expect(rt, "memory");
+    check_range(rt, spots.as_slice());
     stand.step(rt, alloc, &Edit::Add { id, spots }, 2, &OpenGate)
 }
 
+// The stand of the robot of width and height 1, without obstacles.
+fn first_stand<R: Threads + Sync + Abort>(rt: &R, alloc: Global) -> Stand {
+    let scene = empty(rt, alloc, "0 0, 1 0, 0 1").ok().expect(rt, "a scene");
+    let stand = Stand::build(rt, alloc, scene, 2, &OpenGate);
+    stand.ok().expect(rt, "a stand")
+}
+
+// Compares the number of obstacles with what is expected.
+fn expect_count(rt: &impl Abort, stand: &Stand, expected: u32) {
+    assert_eq!(rt; stand.scene().count(), expected);
+}
+
+const BAR: &str = "9 -5, 11 -5, 11 10, 9 10";
+
 #[test]
-fn a_stand_is_built_and_edited_or_the_edit_is_refused(rt: HostRuntime) -> Result<(), Fail> {
+fn a_stand_is_built_and_edited_or_the_edit_is_refused(rt: HostRuntime) {
     let alloc = rt.alloc();
-    let bar = [at(9, -5), at(11, -5), at(11, 10), at(9, 10)];
-    let scene = empty(&rt, alloc, &[at(0, 0), at(1, 0), at(0, 1)])?;
-    let first = Stand::build(&rt, alloc, scene, 2, &OpenGate)?;
-    assert_eq!(&rt; first.scene().count(), 0);
-    let second = add(&rt, alloc, &first, 1, &bar)?;
-    assert_eq!(&rt; second.scene().count(), 1);
-    let again = add(&rt, alloc, &second, 1, &bar);
+    let first = first_stand(&rt, alloc);
+    expect_count(&rt, &first, 0);
+    let second = add(&rt, alloc, &first, 1, BAR).ok().expect(&rt, "a stand");
+    expect_count(&rt, &second, 1);
+    let again = add(&rt, alloc, &second, 1, BAR);
     assert!(&rt; again.err() == Some(StepFault::Edit(EditFault::Duplicate(1))));
-    assert_eq!(&rt; first.scene().count(), 0);
-    Ok(())
+    expect_count(&rt, &first, 0);
 }
 
-// A saw of 17 vertices.
-fn saw() -> [Spot; 17] {
-    [
-        at(0, 0),
-        at(15, 0),
-        at(14, 2),
-        at(13, 1),
-        at(12, 2),
-        at(11, 1),
-        at(10, 2),
-        at(9, 1),
-        at(8, 2),
-        at(7, 1),
-        at(6, 2),
-        at(5, 1),
-        at(4, 2),
-        at(3, 1),
-        at(2, 2),
-        at(1, 1),
-        at(0, 2),
-    ]
-}
+// A robot of 17 vertices.
+const SAW: &str =
+    "0 0, 15 0, 14 2, 13 1, 12 2, 11 1, 10 2, 9 1, 8 2, 7 1, 6 2, 5 1, 4 2, 3 1, 2 2, 1 1, 0 2";
 
 #[test]
-fn a_robot_of_17_vertices_has_no_scene(rt: HostRuntime) -> Result<(), Fail> {
-    let alloc = rt.alloc();
-    let refused = empty(&rt, alloc, &saw());
+fn a_robot_of_17_vertices_has_no_scene(rt: HostRuntime) {
+    let refused = empty(&rt, rt.alloc(), SAW);
     assert!(&rt; refused.err() == Some(SceneFault::RobotMany(17)));
-    Ok(())
 }

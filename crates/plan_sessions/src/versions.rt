@@ -1,7 +1,7 @@
-use crate::calls::{document, expect, lines_of};
-use std::alloc::{AllocError, Global};
+use crate::calls::{columns, lines_by};
+use plan_watch::OpenGate;
+use std::alloc::Global;
 use std::process::Abort;
-use std::test::Fail;
 
 // A bar comes and goes, while the first lane asks twice whether it is in the way, and the second once.
 const COMES_AND_GOES: &str =
@@ -11,75 +11,99 @@ const EDITS: &str = "round 1\nedit 1 version 1\nedit 2 version 2\n";
 
 const END: &str = "end version 2\nstatus 0\n";
 
-// The reply at a version.
-fn reply_at(version: &str) -> Option<&'static str> {
+// The reply without the bar.
+const PATH: &str = r#"{"path":[[2,2,1],[15,2,1]]}"#;
+
+// The reply where the bar is in the way.
+const CHAIN: &str = r#"{"chain":[[0,0,1,8,0,1],[8,0,1,8,19,1],[0,19,1,8,19,1],[0,0,1,0,19,1]]}"#;
+
+// The number of a version, and the reply at it.
+fn reply_at(version: &str) -> Option<(u8, &'static str)> {
     match version {
-        "1" => Some(r#"{"chain":[[0,0,1,8,0,1],[8,0,1,8,19,1],[0,19,1,8,19,1],[0,0,1,0,19,1]]}"#),
-        "0" | "2" => Some(r#"{"path":[[2,2,1],[15,2,1]]}"#),
+        "0" => Some((0, PATH)),
+        "1" => Some((1, CHAIN)),
+        "2" => Some((2, PATH)),
         _ => None,
     }
 }
 
-// Whether the line, from its version on, has the reply at that version, and which that is.
-fn version_in(line: &str) -> Option<&str> {
-    let (version, reply) = line.split_once(' ')?;
-    if reply == reply_at(version)? {
-        Some(version)
-    } else {
-        None
-    }
-}
-
-// Whether the second version may follow the first in a lane.
-fn may_follow(first: &str, second: &str) -> bool {
-    matches!(
-        (first, second),
-        ("0", "0" | "1" | "2") | ("1", "1" | "2") | ("2", "2")
-    )
+// The version of a line, from its version on, where it has the reply at that version.
+fn version_in(line: &str) -> Option<u8> {
+    let (version, said) = line.split_once(' ')?;
+    let (number, reply) = reply_at(version)?;
+    if said == reply { Some(number) } else { None }
 }
 
 // The lines of the lanes, parted by the words before their versions.
-fn versions_in(text: &str) -> Option<(&str, &str, &str)> {
+fn lanes_in(text: &str) -> Option<(&str, &str, &str)> {
     let lanes = text.strip_prefix(EDITS)?.strip_suffix(END)?;
     let lanes = lanes.strip_prefix("lane 1 query 1 version ")?;
     let (first, lanes) = lanes.split_once("\nlane 1 query 2 version ")?;
     let (second, third) = lanes.split_once("\nlane 2 query 1 version ")?;
-    let third = third.strip_suffix("\n")?;
-    Some((version_in(first)?, version_in(second)?, version_in(third)?))
+    Some((first, second, third.strip_suffix("\n")?))
+}
+
+// Whether the lines of the lanes have versions that never fall in a lane.
+fn are_lawful(first: &str, second: &str, third: &str) -> bool {
+    match (version_in(first), version_in(second), version_in(third)) {
+        (Some(first), Some(second), Some(_)) => first <= second,
+        _ => false,
+    }
 }
 
 // Whether these are lawful lines of the bar that comes and goes.
 fn is_lawful(text: &str) -> bool {
-    match versions_in(text) {
-        Some((first, second, _)) => may_follow(first, second),
+    match lanes_in(text) {
+        Some((first, second, third)) => are_lawful(first, second, third),
         None => false,
     }
 }
 
-#[test]
-fn a_bar_comes_and_goes_while_two_lanes_ask(rt: HostRuntime) -> Result<(), Fail> {
-    let alloc = rt.alloc();
-    let text = document(alloc, COMES_AND_GOES)?;
-    for _ in 0..20 {
-        let told = lines_of(&rt, alloc, text.as_str())?;
-        assert!(&rt; is_lawful(told.as_str()), "{told}");
-    }
-    Ok(())
+// Stops the program where the lines are not lawful.
+fn check(rt: &impl Abort, told: &str) {
+    assert!(rt; is_lawful(told), "{told}");
 }
 
-// The lines with these versions, each with the reply of another.
-fn text_with(
-    alloc: Global,
-    versions: (&str, &str, &str),
-    replies: (&str, &str, &str),
-) -> Result<String, AllocError> {
-    let (first, second, third) = versions;
-    let said = reply_at(replies.0).unwrap_or("");
-    let again = reply_at(replies.1).unwrap_or("");
-    let beside = reply_at(replies.2).unwrap_or("");
-    format!(in alloc;
-        "{EDITS}lane 1 query 1 version {first} {said}\nlane 1 query 2 version {second} {again}\nlane 2 query 1 version {third} {beside}\n{END}"
-    )
+#[test]
+fn a_bar_comes_and_goes_while_two_lanes_ask(rt: HostRuntime) {
+    let alloc = rt.alloc();
+    for _ in 0..20 {
+        let told = lines_by(&rt, alloc, COMES_AND_GOES, &OpenGate, &mut Vec::new(alloc));
+        check(&rt, told.as_str());
+    }
+}
+
+// What the reply at the version says.
+fn said_at(version: &str) -> &'static str {
+    match reply_at(version) {
+        Some((_, reply)) => reply,
+        None => "",
+    }
+}
+
+// A line of a lane, from its version on.
+fn line_of(rt: &impl Abort, alloc: Global, version: &str, reply: &str) -> String {
+    let made = format!(in alloc; "{version} {reply}\n");
+    made.ok().expect(rt, "memory")
+}
+
+// Whether the lines with the versions of a row are lawful, each with the reply at the version of another row.
+fn is_row_lawful(rt: &impl Abort, alloc: Global, row: &str, replies: &str) -> bool {
+    let [first, second, third] = versions(rt, row);
+    let [said, again, beside] = versions(rt, replies);
+    let first = line_of(rt, alloc, first, said_at(said));
+    let second = line_of(rt, alloc, second, said_at(again));
+    let third = line_of(rt, alloc, third, said_at(beside));
+    let text = text_with(rt, alloc, first.as_str(), second.as_str(), third.as_str());
+    is_lawful(text.as_str())
+}
+
+// The text of these three lines of the lanes.
+fn text_with(rt: &impl Abort, alloc: Global, first: &str, second: &str, third: &str) -> String {
+    let made = format!(in alloc;
+        "{EDITS}lane 1 query 1 version {first}lane 1 query 2 version {second}lane 2 query 1 version {third}{END}"
+    );
+    made.ok().expect(rt, "memory")
 }
 
 /// The versions of the two lanes that are lawful.
@@ -89,33 +113,22 @@ const LAWFUL: &str = "0 0 0\n0 0 1\n0 0 2\n0 1 0\n0 1 1\n0 1 2\n0 2 0\n0 2 1\n0 
 /// Others: that fall, or lie behind the round's end.
 const UNLAWFUL: &str = "1 0 0\n2 0 0\n2 1 0\n0 0 3\n3 3 0\n0 3 0";
 
-// The three columns of a row.
-fn columns(row: &str) -> Result<(&str, &str, &str), Fail> {
-    let Some((first, rest)) = row.split_once(' ') else {
-        return Err(Fail::from("a column is missing"));
-    };
-    match rest.split_once(' ') {
-        Some((second, third)) => Ok((first, second, third)),
-        None => Err(Fail::from("a column is missing")),
-    }
+// The three versions of a row.
+fn versions<'a>(rt: &impl Abort, row: &'a str) -> [&'a str; 3] {
+    let (first, rest) = columns(rt, row, " ");
+    let (second, third) = columns(rt, rest, " ");
+    [first, second, third]
 }
 
 #[test]
-fn exactly_versions_that_never_fall_with_their_own_replies_are_lawful(
-    rt: HostRuntime,
-) -> Result<(), Fail> {
+fn exactly_versions_that_never_fall_with_their_own_replies_are_lawful(rt: HostRuntime) {
     let alloc = rt.alloc();
     for row in LAWFUL.lines() {
-        let versions = columns(row)?;
-        let text = text_with(alloc, versions, versions)?;
-        assert!(&rt; is_lawful(text.as_str()));
-        let text = text_with(alloc, versions, ("1", "1", "1"))?;
-        assert_eq!(&rt; is_lawful(text.as_str()), row == "1 1 1");
+        assert!(&rt; is_row_lawful(&rt, alloc, row, row));
+        let is_first = row == "1 1 1";
+        assert!(&rt; is_row_lawful(&rt, alloc, row, "1 1 1") == is_first);
     }
     for row in UNLAWFUL.lines() {
-        let versions = columns(row)?;
-        let text = text_with(alloc, versions, versions)?;
-        assert!(&rt; !is_lawful(text.as_str()));
+        assert!(&rt; !is_row_lawful(&rt, alloc, row, row));
     }
-    Ok(())
 }

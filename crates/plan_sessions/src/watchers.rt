@@ -1,11 +1,11 @@
-ghost use Rattle.std.specs.Prelude.{◌≤◌, IfOk};
+ghost use Rattle.std.specs.Prelude.{◌≤◌, All};
 
-use crate::calls::{document, expect, lines_by};
-use plan_watch::{MOST_PAIRS, NoMemory, OpenGate, Stay, Tally, Watcher};
+use crate::calls::{expect, lines_by};
+use plan_watch::{MOST_PAIRS, OpenGate, Stay, Tally, Watcher};
 use std::alloc::Global;
+use std::process::Abort;
 use std::sync::Arc;
 use std::sync::atomic::{AtomicU64, Ordering};
-use std::test::Fail;
 
 // What a watcher was told at its first two calls, each as 1000 times the version and the obstacles.
 #[derive(Drop)]
@@ -53,25 +53,43 @@ impl Watcher for Twice {
     }
 }
 
-fn boxed(alloc: Global, notes: Arc<Notes>) -> Result<Box<dyn Watcher>, Fail>
-    ensures { IfOk result (λ w. 2048 ≤ room w) }
+// The watcher, boxed, of which nothing was told yet.
+fn boxed(rt: &impl Abort, alloc: Global, notes: &Arc<Notes>) -> Box<dyn Watcher>
+    ensures { 2048 ≤ room result }
 {
+    let pairs = Vec::with_capacity(alloc, MOST_PAIRS)
+        .ok()
+        .expect(rt, "memory");
+    let notes = Arc::try_clone(notes).ok().expect(rt, "memory");
     let watcher = Twice {
-        pairs: Vec::with_capacity(alloc, MOST_PAIRS)?,
+        pairs,
         was_told: false,
         notes,
     };
-    Ok(Box::new(alloc, watcher)?)
+    Box::new(alloc, watcher).ok().expect(rt, "memory")
 }
 
-/// A watcher that keeps all pairs, boxed.
-pub fn tally(alloc: Global) -> Result<Box<dyn Watcher>, Fail>
-    ensures { IfOk result (λ w. 2048 ≤ room w) }
+// A watcher that keeps all pairs, boxed.
+fn tally(rt: &impl Abort, alloc: Global) -> Box<dyn Watcher>
+    ensures { 2048 ≤ room result }
 {
-    match Tally::new(alloc) {
-        Ok(made) => Ok(Box::new(alloc, made)?),
-        Err(NoMemory) => Err(Fail::from("memory")),
-    }
+    let made = Tally::new(alloc).ok().expect(rt, "memory");
+    Box::new(alloc, made).ok().expect(rt, "memory")
+}
+
+/// One watcher, which keeps all pairs.
+pub fn one_tally(rt: &impl Abort, alloc: Global) -> Vec<Box<dyn Watcher>>
+    ensures { All (λ w. 2048 ≤ room w) result.items }
+{
+    let mut watchers = Vec::new(alloc);
+    watchers.push(tally(rt, alloc)).ok().expect(rt, "memory");
+    watchers
+}
+
+/// What the only watcher has kept.
+pub fn pairs_of_one<'a>(rt: &impl Abort, watchers: &'a [Box<dyn Watcher>]) -> &'a [(u32, u32)] {
+    assert_eq!(rt; watchers.len(), 1);
+    watchers[0].kept()
 }
 
 /// A bar is put in, taken away, and put in.
@@ -81,29 +99,48 @@ const THREE_EDITS: &str =
 const THEIR_LINES: &str =
     "round 1\nedit 1 version 1\nedit 2 version 2\nedit 3 version 3\nend version 3\nstatus 0\n";
 
-#[test]
-fn a_watcher_that_is_done_is_let_go_and_the_tally_behind_it_is_told_all(
-    rt: HostRuntime,
-) -> Result<(), Fail> {
-    let alloc = rt.alloc();
-    let notes = Arc::new(
-        alloc,
-        Notes {
-            first: AtomicU64::new(0),
-            second: AtomicU64::new(0),
-        },
-    )?;
+// Notes of a watcher that was told nothing yet.
+fn no_notes(rt: &impl Abort, alloc: Global) -> Arc<Notes> {
+    let notes = Notes {
+        first: AtomicU64::new(0),
+        second: AtomicU64::new(0),
+    };
+    Arc::new(alloc, notes).ok().expect(rt, "memory")
+}
+
+// The watcher that is done at its second call, and behind it one that keeps all pairs.
+fn twice_and_tally(rt: &impl Abort, alloc: Global, notes: &Arc<Notes>) -> Vec<Box<dyn Watcher>>
+    ensures { All (λ w. 2048 ≤ room w) result.items }
+{
     let mut watchers = Vec::new(alloc);
-    watchers.push(boxed(alloc, Arc::try_clone(&notes)?)?)?;
-    watchers.push(tally(alloc)?)?;
-    let text = document(alloc, THREE_EDITS)?;
-    let told = lines_by(&rt, alloc, text.as_str(), &OpenGate, &mut watchers)?;
-    expect(&rt, &told, THEIR_LINES);
-    assert_eq!(&rt; notes.first.load(Ordering::SeqCst), 1001);
-    assert_eq!(&rt; notes.second.load(Ordering::SeqCst), 2000);
-    assert_eq!(&rt; watchers.len(), 1);
-    assert_eq!(&rt; watchers[0].kept(), [(1, 1), (2, 0), (3, 1)].as_slice());
-    Ok(())
+    watchers
+        .push(boxed(rt, alloc, notes))
+        .ok()
+        .expect(rt, "memory");
+    watchers.push(tally(rt, alloc)).ok().expect(rt, "memory");
+    watchers
+}
+
+// Compares the notes with what is expected.
+fn expect_notes(rt: &impl Abort, notes: &Notes, first: u64, second: u64) {
+    assert_eq!(rt; notes.first.load(Ordering::SeqCst), first);
+    assert_eq!(rt; notes.second.load(Ordering::SeqCst), second);
+}
+
+// Compares what the only watcher has kept with what is expected.
+fn expect_pairs(rt: &impl Abort, watchers: &[Box<dyn Watcher>], expected: &[(u32, u32)]) {
+    assert_eq!(rt; pairs_of_one(rt, watchers), expected);
+}
+
+#[test]
+fn a_watcher_that_is_done_is_let_go_and_the_tally_behind_it_is_told_all(rt: HostRuntime) {
+    let alloc = rt.alloc();
+    let notes = no_notes(&rt, alloc);
+    let mut watchers = twice_and_tally(&rt, alloc, &notes);
+    let told = lines_by(&rt, alloc, THREE_EDITS, &OpenGate, &mut watchers);
+    expect(&rt, told.as_str(), THEIR_LINES);
+    expect_notes(&rt, &notes, 1001, 2000);
+    expect_pairs(&rt, watchers.as_slice(), &[(1, 1), (2, 0), (3, 1)]);
 }
 
 /// One edit that is accepted and two that are refused; then a lane.
@@ -111,18 +148,16 @@ const ONE_ACCEPTED: &str =
     r#"[{"edits":[{"add":1,"shape":[[9,-5],[11,-5],[11,10],[9,10]]},{"add":1,"shape":[[9,-5],[11,-5],[11,10],[9,10]]},{"remove":7}],"lanes":[]},
 {"edits":[],"lanes":[[[2,2,5,5]]]}]"#;
 
+// Stops the program where the session has not ended with the first version.
+fn check_end(rt: &impl Abort, told: &str) {
+    assert!(rt; told.ends_with("end version 1\nstatus 0\n"), "{told}");
+}
+
 #[test]
-fn nobody_is_told_of_edits_that_are_refused(rt: HostRuntime) -> Result<(), Fail> {
+fn nobody_is_told_of_edits_that_are_refused(rt: HostRuntime) {
     let alloc = rt.alloc();
-    let mut watchers = Vec::new(alloc);
-    watchers.push(tally(alloc)?)?;
-    let text = document(alloc, ONE_ACCEPTED)?;
-    let told = lines_by(&rt, alloc, text.as_str(), &OpenGate, &mut watchers)?;
-    assert!(&rt;
-        told.as_str().ends_with("end version 1\nstatus 0\n"),
-        "{told}"
-    );
-    assert_eq!(&rt; watchers.len(), 1);
-    assert_eq!(&rt; watchers[0].kept(), [(1, 1)].as_slice());
-    Ok(())
+    let mut watchers = one_tally(&rt, alloc);
+    let told = lines_by(&rt, alloc, ONE_ACCEPTED, &OpenGate, &mut watchers);
+    check_end(&rt, told.as_str());
+    expect_pairs(&rt, watchers.as_slice(), &[(1, 1)]);
 }
