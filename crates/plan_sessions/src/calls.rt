@@ -29,25 +29,21 @@ pub fn columns<'a>(rt: &impl Abort, row: &'a str, parted: &str) -> (&'a str, &'a
     row.split_once(parted).expect(rt, "two columns")
 }
 
-/// The numbers of a row, which has N of them.
-pub fn numbers<const N: usize>(rt: &impl Abort, row: &str) -> [u32; N] {
-    let mut found = [0; N];
-    let mut count = 0;
-    for word in row.split(' ') {
-        assert!(rt; count < N, "{row}");
-        found[count] = word.parse::<u32>().ok().expect(rt, "a number");
-        count += 1;
-    }
-    assert!(rt; count == N, "{row}");
-    found
+/// The text between two others.
+pub fn between(rt: &impl Abort, alloc: Global, head: &str, text: &str, tail: &str) -> String {
+    let mut all = text_of(rt, alloc, head);
+    put(rt, &mut all, text);
+    put(rt, &mut all, tail);
+    all
 }
+
+// What is before the rounds: a frame of 20 by 20, a robot of width and height 1, and no first obstacle.
+const HEAD: &str =
+    r#"{"format":1,"frame":[0,0,20,20],"robot":[[0,0],[1,0],[0,1]],"obstacles":[],"rounds":"#;
 
 /// A document of rounds in a frame of 20 by 20, with a robot of width and height 1 and no first obstacle.
 pub fn document(rt: &impl Abort, alloc: Global, rounds: &str) -> String {
-    let made = format!(in alloc;
-        "{{\"format\":1,\"frame\":[0,0,20,20],\"robot\":[[0,0],[1,0],[0,1]],\"obstacles\":[],\"rounds\":{rounds}}}"
-    );
-    made.ok().expect(rt, "memory")
+    between(rt, alloc, HEAD, rounds, "}")
 }
 
 /// Plays the session of these rounds with two workers, by a gate and with watchers, and gives its lines and its status.
@@ -81,6 +77,20 @@ fn lines_of<R: Threads + Wait + Sync + Abort, G: Gate>(
     written(rt, alloc, code, sink.bytes())
 }
 
+// The words that ask for a session with two workers.
+fn session_words(rt: &impl Abort, alloc: Global) -> Vec<String> {
+    let mut words = Vec::new(alloc);
+    words
+        .push(text_of(rt, alloc, "session"))
+        .ok()
+        .expect(rt, "memory");
+    words
+        .push(text_of(rt, alloc, "2"))
+        .ok()
+        .expect(rt, "memory");
+    words
+}
+
 /// Plays a session with two workers, and gives its code.
 pub fn code_of<R: Threads + Wait + Sync + Abort, S: Source, K: Sink, G: Gate>(
     rt: &R,
@@ -92,7 +102,7 @@ pub fn code_of<R: Threads + Wait + Sync + Abort, S: Source, K: Sink, G: Gate>(
 ) -> u8
     requires room { All (λ w. 2048 ≤ room w) watchers.old.items }
 {
-    let words = [text_of(rt, alloc, "session"), text_of(rt, alloc, "2")];
+    let words = session_words(rt, alloc);
     run(rt, alloc, words.as_slice(), source, sink, gate, watchers).code()
 }
 
@@ -106,6 +116,16 @@ pub fn written(rt: &impl Abort, alloc: Global, code: u8, bytes: &[u8]) -> String
 /// Compares what was told with what is expected.
 pub fn expect(rt: &impl Abort, told: &str, expected: &str) {
     assert_eq!(rt; told, expected);
+}
+
+/// The same of numbers.
+pub fn expect_number(rt: &impl Abort, found: u64, expected: u64) {
+    assert_eq!(rt; found, expected);
+}
+
+/// Stops the program where what was told is not as it must be.
+pub fn check(rt: &impl Abort, told: &str, is_right: bool) {
+    assert!(rt; is_right, "{told}");
 }
 
 /// Plays the session of a document, and compares its lines and its status with what is expected.
@@ -128,4 +148,15 @@ pub fn expect_lines<R: Threads + Wait + Sync + Abort>(
 ) {
     let text = document(rt, alloc, rounds);
     expect_of(rt, alloc, text.as_str(), expected);
+}
+
+/// The same of rounds whose document is refused for this cause.
+pub fn expect_refused<R: Threads + Wait + Sync + Abort>(
+    rt: &R,
+    alloc: Global,
+    rounds: &str,
+    why: &str,
+) {
+    let line = between(rt, alloc, "refused: ", why, "\nstatus 2\n");
+    expect_lines(rt, alloc, rounds, line.as_str());
 }

@@ -23,16 +23,17 @@ const TRIANGLE: &str = "[[0,0],[2,0],[0,2]]";
 
 const BOW: &str = "[[0,0],[2,2],[2,0],[0,2]]";
 
-// The first obstacles: the combs 1 to 14, of which all but two are the same, and the triangles 15 to 63, all the same. They
-// make 469 sums.
-fn first_obstacles(rt: &impl Abort, alloc: Global) -> String {
-    let mut all = obstacle(rt, alloc, 1, MIDDLE_COMB);
-    put_item(rt, &mut all, obstacle(rt, alloc, 2, HIGH_COMB).as_str());
-    for id in 3..64 {
-        let shape = if id < 15 { LOW_COMB } else { TRIANGLE };
-        put_item(rt, &mut all, obstacle(rt, alloc, id, shape).as_str());
+// Appends the first obstacles: the combs 1 to 14, of which all but two are the same, and the triangles 15 to 63, all the
+// same. They make 469 sums.
+fn put_obstacles(rt: &impl Abort, alloc: Global, all: &mut String) {
+    put(rt, all, obstacle(rt, alloc, 1, MIDDLE_COMB).as_str());
+    put_item(rt, all, obstacle(rt, alloc, 2, HIGH_COMB).as_str());
+    for id in 3..15 {
+        put_item(rt, all, obstacle(rt, alloc, id, LOW_COMB).as_str());
     }
-    all
+    for id in 15..64 {
+        put_item(rt, all, obstacle(rt, alloc, id, TRIANGLE).as_str());
+    }
 }
 
 // An obstacle of a document.
@@ -71,26 +72,36 @@ fn shape_of(name: &str) -> &'static str {
     }
 }
 
-// The edit of a document that a row tells.
-fn edit(rt: &impl Abort, alloc: Global, text: &str) -> String {
-    let made = match text.split_once(' ') {
-        Some((id, name)) => {
-            let shape = shape_of(name);
-            format!(in alloc; "{{\"add\":{id},\"shape\":{shape}}}")
-        }
-        None => format!(in alloc; "{{\"remove\":{text}}}"),
-    };
-    made.ok().expect(rt, "memory")
+// Appends the edit that a row tells.
+fn put_edit(rt: &impl Abort, all: &mut String, text: &str) {
+    match text.split_once(' ') {
+        Some((id, name)) => put_added(rt, all, id, shape_of(name)),
+        None => put_removed(rt, all, text),
+    }
 }
 
-// All edits behind one that is refused, so that each row stands behind a comma.
-fn all_edits(rt: &impl Abort, alloc: Global) -> String {
-    let mut edits = edit(rt, alloc, "100");
+fn put_added(rt: &impl Abort, all: &mut String, id: &str, shape: &str) {
+    put(rt, all, "{\"add\":");
+    put(rt, all, id);
+    put(rt, all, ",\"shape\":");
+    put(rt, all, shape);
+    put(rt, all, "}");
+}
+
+fn put_removed(rt: &impl Abort, all: &mut String, id: &str) {
+    put(rt, all, "{\"remove\":");
+    put(rt, all, id);
+    put(rt, all, "}");
+}
+
+// Appends all edits behind one that is refused, so that each row stands behind a comma.
+fn put_edits(rt: &impl Abort, all: &mut String) {
+    put_removed(rt, all, "100");
     for row in EDITS.lines() {
         let (text, _) = columns(rt, row, ": ");
-        put_item(rt, &mut edits, edit(rt, alloc, text).as_str());
+        put(rt, all, ",");
+        put_edit(rt, all, text);
     }
-    edits
 }
 
 // The lines of all edits, and those of the lane behind them.
@@ -111,12 +122,20 @@ fn all_lines(rt: &impl Abort, alloc: Global) -> String {
 
 // The document of the edits among the first obstacles, and of a lane behind them.
 fn session(rt: &impl Abort, alloc: Global) -> String {
-    let obstacles = first_obstacles(rt, alloc);
-    let edits = all_edits(rt, alloc);
-    let made = format!(in alloc;
-        "{{\"format\":1,\"frame\":[-1023,-1023,1023,1023],\"robot\":[[0,0],[1,0],[0,1]],\"obstacles\":[{obstacles}],\"rounds\":[{{\"edits\":[{edits}],\"lanes\":[]}},{{\"edits\":[],\"lanes\":[[[0,0,1,1]]]}}]}}"
+    let mut all = text_of(
+        rt,
+        alloc,
+        r#"{"format":1,"frame":[-1023,-1023,1023,1023],"robot":[[0,0],[1,0],[0,1]],"obstacles":["#,
     );
-    made.ok().expect(rt, "memory")
+    put_obstacles(rt, alloc, &mut all);
+    put(rt, &mut all, r#"],"rounds":[{"edits":["#);
+    put_edits(rt, &mut all);
+    put(
+        rt,
+        &mut all,
+        r#"],"lanes":[]},{"edits":[],"lanes":[[[0,0,1,1]]]}]}"#,
+    );
+    all
 }
 
 #[test]

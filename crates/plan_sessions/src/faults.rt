@@ -1,4 +1,4 @@
-use crate::calls::{code_of, document, expect, expect_of, numbers, put, written};
+use crate::calls::{code_of, document, expect, expect_of, put, written};
 use plan_watch::OpenGate;
 use plan_wire::{MemorySink, MemorySource};
 use std::alloc::Global;
@@ -72,19 +72,27 @@ fn a_sink_that_fails_at_one_write_has_taken_the_lines_before(rt: HostRuntime) {
     }
 }
 
-/// A sink's room, the most bytes that it takes at a call, and the call that fails: it takes 30 bytes, and then no more.
-const NARROW: &str = "30 10000 1000\n30 1 1000\n10000 5 8\n10000 1 31";
+// Compares what is taken of a sink's room, by pieces of this size, up to the call that fails, with the first 30 bytes.
+fn expect_front<R: Threads + Wait + Sync + Abort>(
+    rt: &R,
+    alloc: Global,
+    room: u32,
+    piece: u32,
+    call: u32,
+) {
+    let source = source_of(rt, alloc, &[]);
+    let sink = sink_of(rt, alloc, room, piece, &[call]);
+    let expected = "round 1\nedit 1 version 1\nedit status 4\n";
+    expect_from(rt, alloc, source, sink, expected);
+}
 
 #[test]
 fn a_sink_that_fails_within_a_line_has_taken_a_front_of_it(rt: HostRuntime) {
     let alloc = rt.alloc();
-    for row in NARROW.lines() {
-        let [room, piece, call] = numbers::<3>(&rt, row);
-        let source = source_of(&rt, alloc, &[]);
-        let sink = sink_of(&rt, alloc, room, piece, &[call]);
-        let expected = "round 1\nedit 1 version 1\nedit status 4\n";
-        expect_from(&rt, alloc, source, sink, expected);
-    }
+    expect_front(&rt, alloc, 30, 10_000, 1000);
+    expect_front(&rt, alloc, 30, 1, 1000);
+    expect_front(&rt, alloc, 10_000, 5, 8);
+    expect_front(&rt, alloc, 10_000, 1, 31);
 }
 
 #[test]

@@ -1,8 +1,10 @@
-use crate::calls::{columns, expect_lines, lines_by, numbers, put, put_item, text_of};
+use crate::calls::{between, expect_number, expect_refused, lines_by, put, put_item, text_of};
 use crate::watchers::{one_tally, pairs_of_one};
 use plan_watch::OpenGate;
 use std::alloc::Global;
 use std::process::Abort;
+use std::sync::Wait;
+use std::thread::Threads;
 
 // A list of the item so many times.
 fn list_of(rt: &impl Abort, alloc: Global, times: u32, item: &str) -> String {
@@ -17,8 +19,10 @@ fn list_of(rt: &impl Abort, alloc: Global, times: u32, item: &str) -> String {
 
 // A round of these edits and lanes.
 fn round_of(rt: &impl Abort, alloc: Global, edits: &str, lanes: &str) -> String {
-    let made = format!(in alloc; "{{\"edits\":{edits},\"lanes\":{lanes}}}");
-    made.ok().expect(rt, "memory")
+    let mut round = between(rt, alloc, "{\"edits\":", edits, ",\"lanes\":");
+    put(rt, &mut round, lanes);
+    put(rt, &mut round, "}");
+    round
 }
 
 // So many rounds, each with the edits so many times, and with so many lanes of so many queries.
@@ -38,12 +42,14 @@ const COMES_AND_GOES: &str = r#"{"add":1,"shape":[[9,-5],[11,-5],[11,10],[9,10]]
 const REPLY: &str = r#" {"path":[[2,2,1],[5,5,1]]}"#;
 
 // Compares the number of lines that begin and end so with what is expected.
-fn expect_count(rt: &impl Abort, text: &str, head: &str, tail: &str, expected: usize) {
-    let found = text
-        .lines()
-        .filter(|line| line.starts_with(head) && line.ends_with(tail))
-        .count();
-    assert_eq!(rt; found, expected);
+fn expect_count(rt: &impl Abort, text: &str, head: &str, tail: &str, expected: u64) {
+    let mut found = 0;
+    for line in text.lines() {
+        if line.starts_with(head) && line.ends_with(tail) {
+            found = u64::saturating_add(found, 1);
+        }
+    }
+    expect_number(rt, found, expected);
 }
 
 // Stops the program where the lines are not those of 64 rounds of 32 edits and 8 lanes of 16 queries.
@@ -59,8 +65,8 @@ fn check_lines(rt: &impl Abort, told: &str) {
 
 // Stops the program where the pairs are not 2048 of which the last is of no obstacle.
 fn check_pairs(rt: &impl Abort, kept: &[(u32, u32)]) {
-    assert_eq!(rt; kept.len(), 2048);
-    assert_eq!(rt; kept.last(), Some(&(2048, 0)));
+    expect_number(rt, kept.len() as u64, 2048);
+    assert!(rt; kept.last() == Some(&(2048, 0)));
 }
 
 #[test]
@@ -73,23 +79,22 @@ fn a_session_may_have_64_rounds_of_32_edits_and_8_lanes_of_16_queries(rt: HostRu
     check_pairs(&rt, pairs_of_one(&rt, watchers.as_slice()));
 }
 
-/// One more than may be, and the place that is refused.
-const ONE_MORE: &str =
-    "65 1 1 1: $.rounds\n1 33 1 1: $.rounds[0].edits\n1 1 9 1: $.rounds[0].lanes\n2 1 1 17: $.rounds[0].lanes[0]";
-
-// The lines of a document that is refused at this place.
-fn refused_at(rt: &impl Abort, alloc: Global, place: &str) -> String {
-    let made = format!(in alloc; "refused: range {place}\nstatus 2\n");
-    made.ok().expect(rt, "memory")
+// Plays rounds of which there is one more of something than may be, and compares the place that is refused.
+fn expect_refused_at<R: Threads + Wait + Sync + Abort>(
+    rt: &R,
+    alloc: Global,
+    counts: [u32; 4],
+    why: &str,
+) {
+    let rounds = rounds_of(rt, alloc, r#"{"remove":1}"#, counts);
+    expect_refused(rt, alloc, rounds.as_str(), why);
 }
 
 #[test]
 fn one_more_of_each_is_refused(rt: HostRuntime) {
     let alloc = rt.alloc();
-    for row in ONE_MORE.lines() {
-        let (counts, place) = columns(&rt, row, ": ");
-        let rounds = rounds_of(&rt, alloc, r#"{"remove":1}"#, numbers::<4>(&rt, counts));
-        let expected = refused_at(&rt, alloc, place);
-        expect_lines(&rt, alloc, rounds.as_str(), expected.as_str());
-    }
+    expect_refused_at(&rt, alloc, [65, 1, 1, 1], "range $.rounds");
+    expect_refused_at(&rt, alloc, [1, 33, 1, 1], "range $.rounds[0].edits");
+    expect_refused_at(&rt, alloc, [1, 1, 9, 1], "range $.rounds[0].lanes");
+    expect_refused_at(&rt, alloc, [2, 1, 1, 17], "range $.rounds[0].lanes[0]");
 }

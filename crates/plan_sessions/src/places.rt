@@ -1,6 +1,5 @@
-use crate::calls::lines_by;
+use crate::calls::{check, expect_number, lines_by};
 use plan_watch::{Gate, Place};
-use std::process::Abort;
 use std::sync::atomic::{AtomicU8, Ordering};
 
 /// A round of one edit, one of two edits and a lane, and one of two lanes, of which the first asks nothing.
@@ -46,11 +45,6 @@ impl Gate for Noting {
     }
 }
 
-// Stops the program where the session has not ended.
-fn check_end(rt: &impl Abort, told: &str) {
-    assert!(rt; told.ends_with("status 0\n"), "{told}");
-}
-
 #[test]
 fn a_gate_is_passed_at_each_edit_and_question_by_its_numbers(rt: HostRuntime) {
     let alloc = rt.alloc();
@@ -58,6 +52,7 @@ fn a_gate_is_passed_at_each_edit_and_question_by_its_numbers(rt: HostRuntime) {
         passed: AtomicU8::new(0),
     };
     let told = lines_by(&rt, alloc, THREE_ROUNDS, &gate, &mut Vec::new(alloc));
-    check_end(&rt, told.as_str());
-    assert_eq!(&rt; gate.passed.load(Ordering::SeqCst), 1 + 2 + 4 + 8 + 16 + 32);
+    check(&rt, told.as_str(), told.ends_with("status 0\n"));
+    let passed = gate.passed.load(Ordering::SeqCst);
+    expect_number(&rt, u64::from(passed), 1 + 2 + 4 + 8 + 16 + 32);
 }

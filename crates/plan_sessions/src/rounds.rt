@@ -1,6 +1,4 @@
-use crate::calls::{columns, expect_lines};
-use std::alloc::Global;
-use std::process::Abort;
+use crate::calls::{columns, expect_lines, expect_refused};
 
 /// Two edits that are refused behind one that is accepted, without lanes; then a lane without edits.
 const EDITS_AND_THEN_A_LANE: &str =
@@ -97,18 +95,11 @@ form $.rounds[1].lanes[0][0]=[{"edits":[],"lanes":[]},{"edits":[],"lanes":[[[2,2
 range $.rounds[0].lanes[0][0][2]=[{"edits":[],"lanes":[[[2,2,2047,5]]]}]
 range $.rounds[0].lanes=[{"edits":[],"lanes":[[],[],[],[],[],[],[],[],[]]}]"#;
 
-// The lines of a document that is refused for this.
-fn refused(rt: &impl Abort, alloc: Global, why: &str) -> String {
-    let made = format!(in alloc; "refused: {why}\nstatus 2\n");
-    made.ok().expect(rt, "memory")
-}
-
 #[test]
 fn a_document_that_is_refused_has_one_line(rt: HostRuntime) {
     let alloc = rt.alloc();
     for row in REFUSED.lines() {
         let (why, rounds) = columns(&rt, row, "=");
-        let expected = refused(&rt, alloc, why);
-        expect_lines(&rt, alloc, rounds, expected.as_str());
+        expect_refused(&rt, alloc, rounds, why);
     }
 }

@@ -1,7 +1,7 @@
 ghost use Rattle.std.specs.Prelude.{◌↔◌, All, IsTrue};
 ghost use Rattle.plan_grid.specs.Spot.{IsWithin};
 
-use crate::calls::columns;
+use crate::calls::{columns, expect_number};
 use plan_grid::{Frame, MOST_CORNER, Spot};
 use plan_poly::Polygon;
 use plan_reply::{Stand, StepFault};
@@ -81,8 +81,13 @@ fn first_stand<R: Threads + Sync + Abort>(rt: &R, alloc: Global) -> Stand {
 }
 
 // Compares the number of obstacles with what is expected.
-fn expect_count(rt: &impl Abort, stand: &Stand, expected: u32) {
-    assert_eq!(rt; stand.scene().count(), expected);
+fn expect_count(rt: &impl Abort, stand: &Stand, expected: u64) {
+    expect_number(rt, u64::from(stand.scene().count()), expected);
+}
+
+// Whether the edit is refused since an obstacle of the id 1 is there.
+fn is_duplicate(edited: &Result<Stand, StepFault>) -> bool {
+    matches!(edited, Err(StepFault::Edit(EditFault::Duplicate(1))))
 }
 
 const BAR: &str = "9 -5, 11 -5, 11 10, 9 10";
@@ -95,7 +100,7 @@ fn a_stand_is_built_and_edited_or_the_edit_is_refused(rt: HostRuntime) {
     let second = add(&rt, alloc, &first, 1, BAR).ok().expect(&rt, "a stand");
     expect_count(&rt, &second, 1);
     let again = add(&rt, alloc, &second, 1, BAR);
-    assert!(&rt; again.err() == Some(StepFault::Edit(EditFault::Duplicate(1))));
+    assert!(&rt; is_duplicate(&again));
     expect_count(&rt, &first, 0);
 }
 
@@ -106,5 +111,5 @@ const SAW: &str =
 #[test]
 fn a_robot_of_17_vertices_has_no_scene(rt: HostRuntime) {
     let refused = empty(&rt, rt.alloc(), SAW);
-    assert!(&rt; refused.err() == Some(SceneFault::RobotMany(17)));
+    assert!(&rt; matches!(refused, Err(SceneFault::RobotMany(17))));
 }

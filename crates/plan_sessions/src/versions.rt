@@ -1,4 +1,4 @@
-use crate::calls::{columns, lines_by};
+use crate::calls::{check, columns, lines_by, put, text_of};
 use plan_watch::OpenGate;
 use std::alloc::Global;
 use std::process::Abort;
@@ -34,10 +34,14 @@ fn version_in(line: &str) -> Option<u8> {
     if said == reply { Some(number) } else { None }
 }
 
-// The lines of the lanes, parted by the words before their versions.
-fn lanes_in(text: &str) -> Option<(&str, &str, &str)> {
+// What is behind the words before the first version, up to the end.
+fn lanes_in(text: &str) -> Option<&str> {
     let lanes = text.strip_prefix(EDITS)?.strip_suffix(END)?;
-    let lanes = lanes.strip_prefix("lane 1 query 1 version ")?;
+    lanes.strip_prefix("lane 1 query 1 version ")
+}
+
+// The lines of the lanes, parted by the words before their versions.
+fn lines_in(lanes: &str) -> Option<(&str, &str, &str)> {
     let (first, lanes) = lanes.split_once("\nlane 1 query 2 version ")?;
     let (second, third) = lanes.split_once("\nlane 2 query 1 version ")?;
     Some((first, second, third.strip_suffix("\n")?))
@@ -53,15 +57,10 @@ fn are_lawful(first: &str, second: &str, third: &str) -> bool {
 
 // Whether these are lawful lines of the bar that comes and goes.
 fn is_lawful(text: &str) -> bool {
-    match lanes_in(text) {
+    match lanes_in(text).and_then(lines_in) {
         Some((first, second, third)) => are_lawful(first, second, third),
         None => false,
     }
-}
-
-// Stops the program where the lines are not lawful.
-fn check(rt: &impl Abort, told: &str) {
-    assert!(rt; is_lawful(told), "{told}");
 }
 
 #[test]
@@ -69,7 +68,7 @@ fn a_bar_comes_and_goes_while_two_lanes_ask(rt: HostRuntime) {
     let alloc = rt.alloc();
     for _ in 0..20 {
         let told = lines_by(&rt, alloc, COMES_AND_GOES, &OpenGate, &mut Vec::new(alloc));
-        check(&rt, told.as_str());
+        check(&rt, told.as_str(), is_lawful(told.as_str()));
     }
 }
 
@@ -81,29 +80,31 @@ fn said_at(version: &str) -> &'static str {
     }
 }
 
-// A line of a lane, from its version on.
-fn line_of(rt: &impl Abort, alloc: Global, version: &str, reply: &str) -> String {
-    let made = format!(in alloc; "{version} {reply}\n");
-    made.ok().expect(rt, "memory")
+// Appends a line of a lane with this version, and the reply at that of another.
+fn put_line(rt: &impl Abort, text: &mut String, head: &str, version: &str, other: &str) {
+    put(rt, text, head);
+    put(rt, text, version);
+    put(rt, text, " ");
+    put(rt, text, said_at(other));
+    put(rt, text, "\n");
 }
 
-// Whether the lines with the versions of a row are lawful, each with the reply at the version of another row.
-fn is_row_lawful(rt: &impl Abort, alloc: Global, row: &str, replies: &str) -> bool {
-    let [first, second, third] = versions(rt, row);
-    let [said, again, beside] = versions(rt, replies);
-    let first = line_of(rt, alloc, first, said_at(said));
-    let second = line_of(rt, alloc, second, said_at(again));
-    let third = line_of(rt, alloc, third, said_at(beside));
-    let text = text_with(rt, alloc, first.as_str(), second.as_str(), third.as_str());
-    is_lawful(text.as_str())
+// The lines with the versions of a row, each with the reply at the version of another row.
+fn text_with(rt: &impl Abort, alloc: Global, row: &str, replies: &str) -> String {
+    let (first, second, third) = versions(rt, row);
+    let (said, again, beside) = versions(rt, replies);
+    let mut text = text_of(rt, alloc, EDITS);
+    put_line(rt, &mut text, "lane 1 query 1 version ", first, said);
+    put_line(rt, &mut text, "lane 1 query 2 version ", second, again);
+    put_line(rt, &mut text, "lane 2 query 1 version ", third, beside);
+    put(rt, &mut text, END);
+    text
 }
 
-// The text of these three lines of the lanes.
-fn text_with(rt: &impl Abort, alloc: Global, first: &str, second: &str, third: &str) -> String {
-    let made = format!(in alloc;
-        "{EDITS}lane 1 query 1 version {first}lane 1 query 2 version {second}lane 2 query 1 version {third}{END}"
-    );
-    made.ok().expect(rt, "memory")
+// Compares whether the lines of two rows are lawful with what is expected.
+fn expect_law(rt: &impl Abort, alloc: Global, row: &str, replies: &str, expected: bool) {
+    let text = text_with(rt, alloc, row, replies);
+    check(rt, text.as_str(), is_lawful(text.as_str()) == expected);
 }
 
 /// The versions of the two lanes that are lawful.
@@ -114,21 +115,25 @@ const LAWFUL: &str = "0 0 0\n0 0 1\n0 0 2\n0 1 0\n0 1 1\n0 1 2\n0 2 0\n0 2 1\n0 
 const UNLAWFUL: &str = "1 0 0\n2 0 0\n2 1 0\n0 0 3\n3 3 0\n0 3 0";
 
 // The three versions of a row.
-fn versions<'a>(rt: &impl Abort, row: &'a str) -> [&'a str; 3] {
+fn versions<'a>(rt: &impl Abort, row: &'a str) -> (&'a str, &'a str, &'a str) {
     let (first, rest) = columns(rt, row, " ");
     let (second, third) = columns(rt, rest, " ");
-    [first, second, third]
+    (first, second, third)
 }
 
 #[test]
-fn exactly_versions_that_never_fall_with_their_own_replies_are_lawful(rt: HostRuntime) {
+fn versions_that_never_fall_are_lawful_exactly_with_their_own_replies(rt: HostRuntime) {
     let alloc = rt.alloc();
     for row in LAWFUL.lines() {
-        assert!(&rt; is_row_lawful(&rt, alloc, row, row));
-        let is_first = row == "1 1 1";
-        assert!(&rt; is_row_lawful(&rt, alloc, row, "1 1 1") == is_first);
+        expect_law(&rt, alloc, row, row, true);
+        expect_law(&rt, alloc, row, "1 1 1", row == "1 1 1");
     }
+}
+
+#[test]
+fn versions_that_fall_or_lie_behind_the_end_are_not_lawful(rt: HostRuntime) {
+    let alloc = rt.alloc();
     for row in UNLAWFUL.lines() {
-        assert!(&rt; !is_row_lawful(&rt, alloc, row, row));
+        expect_law(&rt, alloc, row, row, false);
     }
 }

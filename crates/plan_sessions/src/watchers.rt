@@ -1,6 +1,6 @@
 ghost use Rattle.std.specs.Prelude.{◌≤◌, All};
 
-use crate::calls::{expect, lines_by};
+use crate::calls::{check, expect, expect_number, lines_by};
 use plan_watch::{MOST_PAIRS, OpenGate, Stay, Tally, Watcher};
 use std::alloc::Global;
 use std::process::Abort;
@@ -88,8 +88,10 @@ pub fn one_tally(rt: &impl Abort, alloc: Global) -> Vec<Box<dyn Watcher>>
 
 /// What the only watcher has kept.
 pub fn pairs_of_one<'a>(rt: &impl Abort, watchers: &'a [Box<dyn Watcher>]) -> &'a [(u32, u32)] {
-    assert_eq!(rt; watchers.len(), 1);
-    watchers[0].kept()
+    let [watcher] = watchers else {
+        panic!(rt; "not one watcher");
+    };
+    watcher.kept()
 }
 
 /// A bar is put in, taken away, and put in.
@@ -123,13 +125,13 @@ fn twice_and_tally(rt: &impl Abort, alloc: Global, notes: &Arc<Notes>) -> Vec<Bo
 
 // Compares the notes with what is expected.
 fn expect_notes(rt: &impl Abort, notes: &Notes, first: u64, second: u64) {
-    assert_eq!(rt; notes.first.load(Ordering::SeqCst), first);
-    assert_eq!(rt; notes.second.load(Ordering::SeqCst), second);
+    expect_number(rt, notes.first.load(Ordering::SeqCst), first);
+    expect_number(rt, notes.second.load(Ordering::SeqCst), second);
 }
 
 // Compares what the only watcher has kept with what is expected.
 fn expect_pairs(rt: &impl Abort, watchers: &[Box<dyn Watcher>], expected: &[(u32, u32)]) {
-    assert_eq!(rt; pairs_of_one(rt, watchers), expected);
+    assert!(rt; pairs_of_one(rt, watchers) == expected);
 }
 
 #[test]
@@ -148,16 +150,15 @@ const ONE_ACCEPTED: &str =
     r#"[{"edits":[{"add":1,"shape":[[9,-5],[11,-5],[11,10],[9,10]]},{"add":1,"shape":[[9,-5],[11,-5],[11,10],[9,10]]},{"remove":7}],"lanes":[]},
 {"edits":[],"lanes":[[[2,2,5,5]]]}]"#;
 
-// Stops the program where the session has not ended with the first version.
-fn check_end(rt: &impl Abort, told: &str) {
-    assert!(rt; told.ends_with("end version 1\nstatus 0\n"), "{told}");
-}
-
 #[test]
 fn nobody_is_told_of_edits_that_are_refused(rt: HostRuntime) {
     let alloc = rt.alloc();
     let mut watchers = one_tally(&rt, alloc);
     let told = lines_by(&rt, alloc, ONE_ACCEPTED, &OpenGate, &mut watchers);
-    check_end(&rt, told.as_str());
+    check(
+        &rt,
+        told.as_str(),
+        told.ends_with("end version 1\nstatus 0\n"),
+    );
     expect_pairs(&rt, watchers.as_slice(), &[(1, 1)]);
 }
