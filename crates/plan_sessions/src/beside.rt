@@ -75,6 +75,7 @@ fn edits_and_the_last_lane_run_at_once(rt: HostRuntime) {
     let alloc = rt.alloc();
     let gate = Holding::new();
     let told = lines_by(&rt, alloc, LAST_LANE_ASKS, &gate, &mut Vec::new(alloc));
-    assert!(&rt; !gate.failed.load(Ordering::SeqCst), "a wait was in vain");
+    let has_failed = gate.failed.load(Ordering::SeqCst);
+    check(&rt, "a wait was in vain", !has_failed);
     check(&rt, told.as_str(), is_right(told.as_str()));
 }

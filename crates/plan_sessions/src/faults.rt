@@ -72,7 +72,8 @@ fn a_sink_that_fails_at_one_write_has_taken_the_lines_before(rt: HostRuntime) {
     }
 }
 
-// Compares what is taken of a sink's room, by pieces of this size, up to the call that fails, with the first 30 bytes.
+// Plays the two rounds to a sink of this room, which takes so many bytes at a call and fails at one: it takes 30 bytes,
+// and then no more.
 fn expect_front<R: Threads + Wait + Sync + Abort>(
     rt: &R,
     alloc: Global,

@@ -92,15 +92,20 @@ fn is_duplicate(edited: &Result<Stand, StepFault>) -> bool {
 
 const BAR: &str = "9 -5, 11 -5, 11 10, 9 10";
 
+// Puts the bar into a stand without obstacles, and once more into the stand that comes of it.
+fn check_edits<R: Threads + Sync + Abort>(rt: &R, alloc: Global, first: &Stand) {
+    let second = add(rt, alloc, first, 1, BAR).ok().expect(rt, "a stand");
+    expect_count(rt, &second, 1);
+    let again = add(rt, alloc, &second, 1, BAR);
+    assert!(rt; is_duplicate(&again));
+}
+
 #[test]
 fn a_stand_is_built_and_edited_or_the_edit_is_refused(rt: HostRuntime) {
     let alloc = rt.alloc();
     let first = first_stand(&rt, alloc);
     expect_count(&rt, &first, 0);
-    let second = add(&rt, alloc, &first, 1, BAR).ok().expect(&rt, "a stand");
-    expect_count(&rt, &second, 1);
-    let again = add(&rt, alloc, &second, 1, BAR);
-    assert!(&rt; is_duplicate(&again));
+    check_edits(&rt, alloc, &first);
     expect_count(&rt, &first, 0);
 }
 
