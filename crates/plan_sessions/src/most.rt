@@ -41,13 +41,16 @@ const COMES_AND_GOES: &str = r#"{"add":1,"shape":[[9,-5],[11,-5],[11,10],[9,10]]
 /// A query's reply, which is the same whether the bar stands or not.
 const REPLY: &str = r#" {"path":[[2,2,1],[5,5,1]]}"#;
 
+// Whether a line begins and ends so.
+fn is_from_to(line: &str, head: &str, tail: &str) -> bool {
+    line.starts_with(head) && line.ends_with(tail)
+}
+
 // Compares the number of lines that begin and end so with what is expected.
 fn expect_count(rt: &impl Abort, text: &str, head: &str, tail: &str, expected: u64) {
     let mut found = 0;
     for line in text.lines() {
-        if line.starts_with(head) && line.ends_with(tail) {
-            found = u64::saturating_add(found, 1);
-        }
+        found = u64::saturating_add(found, u64::from(is_from_to(line, head, tail)));
     }
     expect_number(rt, found, expected);
 }

@@ -1,5 +1,6 @@
 ghost use Rattle.std.specs.Prelude.{◌↔◌, All, IsTrue};
 ghost use Rattle.plan_grid.specs.Spot.{IsWithin};
+ghost use Rattle.plan_scene.specs.Edits.{IsEdit};
 
 use crate::calls::{columns, expect_number};
 use plan_grid::{Frame, MOST_CORNER, Spot};
@@ -15,14 +16,18 @@ use std::thread::Threads;
 fn spots_of(rt: &impl Abort, alloc: Global, text: &str) -> Vec<Spot> {
     let mut spots = Vec::new(alloc);
     for pair in text.split(", ") {
-        let (x, y) = columns(rt, pair, " ");
-        let spot = Spot {
-            x: number(rt, x),
-            y: number(rt, y),
-        };
-        spots.push(spot).ok().expect(rt, "memory");
+        spots.push(spot_of(rt, pair)).ok().expect(rt, "memory");
     }
     spots
+}
+
+// The spot of two numbers.
+fn spot_of(rt: &impl Abort, pair: &str) -> Spot {
+    let (x, y) = columns(rt, pair, " ");
+    Spot {
+        x: number(rt, x),
+        y: number(rt, y),
+    }
 }
 
 // The number that a text is.
@@ -58,6 +63,17 @@ fn check_range(rt: &impl Abort, spots: &[Spot])
     }
 }
 
+// The edit that adds an obstacle, which is in range.
+fn added(rt: &impl Abort, alloc: Global, id: u32, shape: &str) -> Edit
+    ensures { IsEdit result }
+{
+    let spots = spots_of(rt, alloc, shape);
+    assert!(rt; 1 <= id && id <= 65535);
+    assert!(rt; 3 <= spots.len() && spots.len() <= 32);
+    check_range(rt, spots.as_slice());
+    Edit::Add { id, spots }
+}
+
 // The stand with an obstacle, or the fault.
 fn add<R: Threads + Sync + Abort>(
     rt: &R,
@@ -66,11 +82,8 @@ fn add<R: Threads + Sync + Abort>(
     id: u32,
     shape: &str,
 ) -> Result<Stand, StepFault> {
-    let spots = spots_of(rt, alloc, shape);
-    assert!(rt; 1 <= id && id <= 65535);
-    assert!(rt; 3 <= spots.len() && spots.len() <= 32);
-    check_range(rt, spots.as_slice());
-    stand.step(rt, alloc, &Edit::Add { id, spots }, 2, &OpenGate)
+    let edit = added(rt, alloc, id, shape);
+    stand.step(rt, alloc, &edit, 2, &OpenGate)
 }
 
 // The stand of the robot of width and height 1, without obstacles.

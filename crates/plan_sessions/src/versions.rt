@@ -47,18 +47,26 @@ fn lines_in(lanes: &str) -> Option<(&str, &str, &str)> {
     Some((first, second, third.strip_suffix("\n")?))
 }
 
-// Whether the lines of the lanes have versions that never fall in a lane.
-fn are_lawful(first: &str, second: &str, third: &str) -> bool {
+// Whether the versions never fall in a lane, each with its own reply.
+fn never_fall(first: &str, second: &str, third: &str) -> bool {
     match (version_in(first), version_in(second), version_in(third)) {
         (Some(first), Some(second), Some(_)) => first <= second,
         _ => false,
     }
 }
 
+// Whether the lines of the lanes are lawful.
+fn are_lawful(lanes: &str) -> bool {
+    match lines_in(lanes) {
+        Some((first, second, third)) => never_fall(first, second, third),
+        None => false,
+    }
+}
+
 // Whether these are lawful lines of the bar that comes and goes.
 fn is_lawful(text: &str) -> bool {
-    match lanes_in(text).and_then(lines_in) {
-        Some((first, second, third)) => are_lawful(first, second, third),
+    match lanes_in(text) {
+        Some(lanes) => are_lawful(lanes),
         None => false,
     }
 }
