@@ -12,10 +12,10 @@ use std::alloc::Global;
 use std::process::Abort;
 use std::thread::Threads;
 
-// The spots of a text, as `0 0, 1 0, 0 1`.
+// The spots of a text, as `0 0,1 0,0 1`.
 fn spots_of(rt: &impl Abort, alloc: Global, text: &str) -> Vec<Spot> {
     let mut spots = Vec::new(alloc);
-    for pair in text.split(", ") {
+    for pair in text.split(',') {
         spots.push(spot_of(rt, pair)).ok().expect(rt, "memory");
     }
     spots
@@ -88,7 +88,7 @@ fn add<R: Threads + Sync + Abort>(
 
 // The stand of the robot of width and height 1, without obstacles.
 fn first_stand<R: Threads + Sync + Abort>(rt: &R, alloc: Global) -> Stand {
-    let scene = empty(rt, alloc, "0 0, 1 0, 0 1").ok().expect(rt, "a scene");
+    let scene = empty(rt, alloc, "0 0,1 0,0 1").ok().expect(rt, "a scene");
     let stand = Stand::build(rt, alloc, scene, 2, &OpenGate);
     stand.ok().expect(rt, "a stand")
 }
@@ -103,7 +103,7 @@ fn is_duplicate(edited: &Result<Stand, StepFault>) -> bool {
     matches!(edited, Err(StepFault::Edit(EditFault::Duplicate(1))))
 }
 
-const BAR: &str = "9 -5, 11 -5, 11 10, 9 10";
+const BAR: &str = "9 -5,11 -5,11 10,9 10";
 
 // Puts the bar into a stand without obstacles, and once more into the stand that comes of it.
 fn check_edits<R: Threads + Sync + Abort>(rt: &R, alloc: Global, first: &Stand) {
@@ -123,8 +123,7 @@ fn a_stand_is_built_and_edited_or_the_edit_is_refused(rt: HostRuntime) {
 }
 
 // A robot of 17 vertices.
-const SAW: &str =
-    "0 0, 15 0, 14 2, 13 1, 12 2, 11 1, 10 2, 9 1, 8 2, 7 1, 6 2, 5 1, 4 2, 3 1, 2 2, 1 1, 0 2";
+const SAW: &str = "0 0,15 0,14 2,13 1,12 2,11 1,10 2,9 1,8 2,7 1,6 2,5 1,4 2,3 1,2 2,1 1,0 2";
 
 #[test]
 fn a_robot_of_17_vertices_has_no_scene(rt: HostRuntime) {
