@@ -10,8 +10,6 @@ mod in_room;
 pub mod laws;
 mod no_memory;
 mod sorted;
-#[cfg(test)]
-mod tests;
 
 pub use all_edges::uncovered;
 pub use no_memory::NoMemory;

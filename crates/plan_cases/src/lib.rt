@@ -1,5 +1,5 @@
 //! Whole runs of the planner: tables of words, documents, sources and sinks, with the code and the line that
-//! answer them; and slabs, maps and rings of scenes, as text. There are only tests here.
+//! answer them; pictures of its answers; and slabs, maps and rings of scenes, as text. There are only tests here.
 #![tactic(auto)]
 
 #[cfg(test)]
@@ -18,6 +18,8 @@ mod faults;
 mod maps;
 #[cfg(test)]
 mod paths;
+#[cfg(test)]
+mod pictures;
 #[cfg(test)]
 mod plans;
 #[cfg(test)]

@@ -18,6 +18,3 @@ pub use certificate::check;
 pub use fault::CheckFault;
 pub use no_memory::NoMemory;
 pub use verdict::Verdict;
-
-#[cfg(test)]
-mod tests;

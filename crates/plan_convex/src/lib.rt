@@ -3,16 +3,12 @@
 
 mod boxes;
 mod clip;
-#[cfg(test)]
-mod clip_tests;
 mod convex;
 mod minkowski;
 mod numbering;
 mod parameter;
 mod part;
 mod piece;
-#[cfg(test)]
-mod tests;
 mod triple;
 mod vertices;
 mod walk;

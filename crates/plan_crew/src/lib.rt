@@ -18,6 +18,3 @@ pub use job::{Job, Outcome};
 pub use lane::{MOST_QUESTIONS, answer_lane};
 pub use no_memory::NoMemory;
 pub use rounds::{MOST_LANES, round};
-
-#[cfg(test)]
-mod tests;

@@ -17,6 +17,3 @@ pub use crossing::{over, parity};
 pub use no_memory::NoMemory;
 pub use polyline::Polyline;
 pub use segment::Segment;
-
-#[cfg(test)]
-mod tests;

@@ -20,6 +20,3 @@ pub use segment::{height, on_segment};
 pub use sides::{orientation, orientation_at, side, side_of};
 pub use spot::Spot;
 pub use triangle::{counterclockwise, from_least};
-
-#[cfg(test)]
-mod tests;

@@ -12,6 +12,3 @@ mod polygon;
 pub use fault::PolyFault;
 pub use least::turn_to_least;
 pub use polygon::Polygon;
-
-#[cfg(test)]
-mod tests;

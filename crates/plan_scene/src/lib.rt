@@ -8,8 +8,6 @@ mod obstacle;
 mod scene;
 mod shape;
 mod sums;
-#[cfg(test)]
-mod tests;
 
 pub use edit::Edit;
 pub use fault::{EditFault, SceneFault};

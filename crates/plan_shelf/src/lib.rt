@@ -16,6 +16,3 @@ pub use no_memory::NoMemory;
 pub use reader::Reader;
 pub use shelf::Shelf;
 pub use told::Told;
-
-#[cfg(test)]
-mod tests;

@@ -10,6 +10,3 @@ mod triangle;
 pub use cutting::triangulate;
 pub use no_memory::NoMemory;
 pub use triangle::{Triangle, Triangles};
-
-#[cfg(test)]
-mod tests;

@@ -14,6 +14,3 @@ pub use stay::Stay;
 pub use tally::{MOST_PAIRS, Tally};
 pub use tell::tell_all;
 pub use watcher::Watcher;
-
-#[cfg(test)]
-mod tests;

@@ -14,6 +14,3 @@ pub use stream::{
     Failed, MOST_BYTES, MemorySink, MemorySource, Sink, Source, SteadySink, SteadySource,
     StreamSink, StreamSource, TakeFault, put_line, take_all,
 };
-
-#[cfg(test)]
-mod tests;

@@ -1,4 +1,0 @@
-mod faults;
-mod prints;
-mod streams;
-mod values;
