@@ -1,6 +1,6 @@
 //! Texts of chains that were given, which are kept for later queries.
-ghost use Rattle.std.specs.Prelude.{◌≡◌, ◌<◌, IfSome, get_or, length};
-ghost use Rattle.plan_top.specs.declared.kept.KeptRing.{KeptRing};
+ghost use Rattle.std.specs.Prelude.{◌≡◌, ◌==◌};
+ghost use Rattle.std.specs.List.{position};
 
 /// The text of a chain that was given, and the part of the floor in which its start is.
 #[derive(Drop)]
@@ -11,13 +11,7 @@ pub struct KeptRing {
 
 /// The number of the text that is kept of a part.
 pub fn kept_at(kept: &[KeptRing], part: u32) -> Option<usize>
-    ensures within { IfSome result (λ at. at < length kept.now) }
-    ensures part { IfSome result (λ at. (d : KeptRing) → (get_or kept.now at d).part ≡ part) }
+    ensures { result ≡ position (λ ring. ring.part == part) kept.now }
 {
-    for at in 0..kept.len() {
-        if kept[at].part == part {
-            return Some(at);
-        }
-    }
-    None
+    kept.iter().position(|ring| ring.part == part)
 }

@@ -1,6 +1,8 @@
 -- A kept text is that of the reply, and a new one is kept with the part of its start.
-use Rattle.std.proofs.Common.{rules, ◌≡◌, ◌<◌, ◌∷◌, [], ◌++◌, List, length, get_or, refl, sym, ap, subst, ◌∙◌}
+use Rattle.std.proofs.Common.{rules, ◌≡◌, ◌==◌, ◌∷◌, [], ◌++◌, position, refl, sym, ap, subst, ◌∙◌}
+use Rattle.std.proofs.lemmas.Bool.{eqb-true}
 use Rattle.std.proofs.lemmas.List.Elements.{All-push}
+use Rattle.std.proofs.lemmas.List.Quantifiers.{position-Some}
 use Rattle.plan_spec.specs.Answers.{by_chain}
 use Rattle.plan_scene.specs.Scene.{IsScene}
 use Rattle.plan_top.specs.Plan.{AreKept, IsKept, IsReplied, answer_text}
@@ -12,10 +14,10 @@ pub returns-in-Some-clause-line : goal.returns-in-Some-clause-line
 returns-in-Some-clause-line c =
     let entry = c.index.result.now in
     let scene : IsScene c.args.stand.now = subst IsScene c.scene.ensures c.count.ensures.scene in
-    let there : c.in-Some.at < length c.args.kept.now.items = subst (λ (all : List KeptRing). c.in-Some.at < length all) c.as_slice.ensures.value c.in-Some.ensures.within in
-    let held : IsKept c.args.stand.now entry = subst (IsKept c.args.stand.now) (sym c.index.ensures) (c.requires.kept c.in-Some.at entry there) in
-    let of_part = subst (λ (all : List KeptRing). (get_or all c.in-Some.at entry).part ≡ c.args.part) c.as_slice.ensures.value (c.in-Some.ensures.part entry) in
-    let same : entry.part ≡ c.args.part = ap (λ (k : KeptRing). k.part) c.index.ensures ∙ of_part in
+    let passes = λ (ring : KeptRing). ring.part == c.args.part in
+    let found = position-Some passes c.args.kept.now.items c.in-Some.at entry (ap (position passes) (sym c.as_slice.ensures.value) ∙ sym c.in-Some.ensures) in
+    let held : IsKept c.args.stand.now entry = subst (IsKept c.args.stand.now) (sym c.index.ensures) (c.requires.kept c.in-Some.at entry found.0) in
+    let same : entry.part ≡ c.args.part = ap (λ (k : KeptRing). k.part) c.index.ensures ∙ eqb-true _ _ found.1 in
     let put : c.extend_from_slice.new.self.items ≡ c.args.line.now.items ++ entry.text.items = search rules in
     put_again c.args.stand.now c.args.query c.args.part c.requires.part c.same_ring.ensures scene entry held same c.args.line.now.items c.extend_from_slice.new.self.items put
 
