@@ -1,5 +1,5 @@
 -- The part of a spot, by the labels of a map.
-use Rattle.std.proofs.Common.{◌≡◌, ℕ, ◌≤◌, ◌<◌, List, length, get_or, sym, subst, arith}
+use Rattle.std.proofs.Common.{◌≡◌, ℕ, ◌≤◌, ◌<◌, List, length, get_or, sym, subst, ◌∙◌, arith}
 use Rattle.plan_spec.specs.Vector.{Vector, IsPoint}
 use Rattle.plan_spec.specs.Answers.{by_chain}
 use Rattle.plan_spec.specs.Boundary.{IsClearOf}
@@ -19,7 +19,7 @@ use Rattle.plan_ring.proofs.Alike.AnswerWalks.{one_region, same_next}
 use Rattle.plan_ring.proofs.Alike.SceneTriangles.{scene_triangles}
 use Rattle.plan_ring.proofs.Alike.Slabs.{AlikeSlabs}
 use Rattle.plan_ring.specs.Grown.{IsRingOf}
-use Rattle.plan_reply.specs.Rings.{IsRing}
+use Rattle.plan_reply.specs.Rings.{IsRing, IsClosedPart}
 use Rattle.plan_reply.specs.Stand.{IsStand, IsPart, IsReply, IsLowestAnswer}
 use Rattle.plan_reply.proofs.Joined.{joined_back, same_component}
 use Rattle.plan_reply.proofs.Longer.{ends_points}
@@ -73,6 +73,27 @@ module _ (scene : Scene) (is_scene : IsScene scene) where
         let maps = alike_maps (scene_seen scene) (scene_triangles scene is_scene) p.is_map m in
         moved maps.slabs z part hz (part_clear z part hz p)
         (subst (λ regions. IsPartBy p.slabs regions z part) maps.regions (record { region = p.region; is_in = p.is_in; within = p.within; joined = p.joined; least = p.least }))
+
+  -- a point is in one part, by whichever maps
+  one_part : (z : Vector) (part other : ℕ) → IsPoint z → IsPart (scene_seen scene) z part → IsPart (scene_seen scene) z other → part ≡ other
+  one_part z part other hz p q =
+      let next = AreNeighbours p.slabs p.regions in
+      let r = part_by p.is_map z other hz q in
+      let same = p.is_in.no_other r.region r.is_in.is_region r.is_in.holds in
+      let low = p.least other r.within (subst (AreJoined next other) same r.joined) in
+      let high = r.least part p.within (subst (AreJoined next part) (sym same) p.joined) in
+      omega (arith, low, high)
+
+  -- no part of a start is closed to that of a goal where one of them touches, or both are in one part
+  module _ (s g : Vector) (hs : IsPoint s) (hg : IsPoint g) where
+    pub start_touched : Touches (scene_seen scene) s → (part : ℕ) → ¬ (IsClosedPart (scene_seen scene) s g part)
+    start_touched h part closed = part_clear s part hs closed.is_start h
+
+    pub goal_touched : Touches (scene_seen scene) g → (part : ℕ) → ¬ (IsClosedPart (scene_seen scene) s g part)
+    goal_touched h part closed = part_clear g closed.other hg closed.is_goal h
+
+    pub in_one_part : (here : ℕ) → IsPart (scene_seen scene) s here → IsPart (scene_seen scene) g here → (part : ℕ) → ¬ (IsClosedPart (scene_seen scene) s g part)
+    in_one_part here from to part closed = closed.differ (one_part s part here hs closed.is_start from ∙ one_part g here closed.other hg to closed.is_goal)
 
   -- the ring of the component of a region serves each start of the part with the region's number and each goal of another
   pub ring_serves : {σ : Slabs} {found : List Lot} → IsMapOf (scene_seen scene) σ found → (chain : List Segment) → IsLowestAnswer (by_chain chain) → (part : ℕ) → IsRingOf σ found part chain → IsRing scene part chain

@@ -1,6 +1,6 @@
 //! The reply to a query.
 
-ghost use Rattle.std.specs.Prelude.{IfOk, IfSome, MatchOption};
+ghost use Rattle.std.specs.Prelude.{ℕ, IfOk, MatchOption};
 ghost use Rattle.plan_spec.specs.Placement.{IsClear, Touches};
 ghost use Rattle.plan_grid.specs.Spot.{spot_seen, IsWithin};
 ghost use Rattle.plan_scene.specs.Scene.{scene_seen};
@@ -47,12 +47,16 @@ impl Stand {
         Some(self.labels[region.number as usize])
     }
 
-    /// The part of the start, where the goal is in another. Coordinates of at most 2046 in absolute value.
+    /// The part of the start, where the goal is in another. None exactly where one of them touches, or both are in one part.
+    /// Coordinates of at most 2046 in absolute value.
     pub fn closed_part(&self, query: Query) -> Option<u32>
         requires start { IsWithin MOST_COORDINATE query.start }
         requires goal { IsWithin MOST_COORDINATE query.goal }
-        ensures { IfSome result (IsClosedPart (scene_seen self.now) (spot_seen query.start) (spot_seen query.goal)) }
+        ensures { MatchOption result
+            ((part : ℕ) → ¬ (IsClosedPart (scene_seen self.now) (spot_seen query.start) (spot_seen query.goal) part))
+            (IsClosedPart (scene_seen self.now) (spot_seen query.start) (spot_seen query.goal)) }
     {
+        prove!(self.scene.count() <= 64);
         let start = self.part_of(query.start)?;
         let goal = self.part_of(query.goal)?;
         if start == goal { None } else { Some(start) }
